@@ -1,0 +1,110 @@
+-- Tallies: one turn of a loop over the senders, counts over unit numbers, and what marking a sender changes. Assumes nothing.
+use Prim.Native.Nat.{ℕ, zero, suc, _+_, _-_, _^_, _≤_, _<_}
+use mathlib.Core.Path.{_≡_, refl, sym, ap, _∙_}
+use mathlib.Core.Bool.{Bool, true, false, cond, _&&_, and-true}
+use mathlib.Core.List.{List, [], _∷_}
+use native.Mathlib.Nat.{add-zero, zero-add, add-suc, suc-add}
+use native.Mathlib.Numerals.{add-one}
+use native.Mathlib.Omega.{arith}
+use lib.Count.{ones}
+use lib.ListN.{length}
+use lib.Seq.{getD-set-same, getD-set-other}
+use Rattle.tally.specs.Limits.{senders}
+use Rattle.tally.specs.Count.{bump, count}
+use Rattle.tally.specs.Gathered.{holds, passing, holders, first}
+use Rattle.tally.specs.Tally.{isMarked, blankCell, placed, held, mark, gatheredFrom, gathered}
+use Rattle.tally.specs.declared.Cell.{Cell}
+use Rattle.tally.specs.declared.Estimate.{Estimate}
+use Rattle.tally.specs.declared.Estimate.the-variants.{Blank, Split, Mileage}
+use Rattle.tally.specs.declared.Tally.{Tally}
+use Rattle.tally.proofs.Count.{count-same}
+use Rattle.tally.proofs.Marks.{ones-senders, mark-same, mark-other}
+
+-- those gathered from the sender s on
+abbrev pub rest : Tally → ℕ → List Estimate
+rest t s = gatheredFrom t s (senders - s)
+
+-- one turn of a loop over the senders, for a test that blank fails
+module _ (P : Estimate → Bool) (blank : P Blank ≡ false) (t : Tally) (s : ℕ) (below : s < senders) where
+  pub passing-step : passing P (rest t s) ≡ bump (P (held t s)) (passing P (rest t (s + 1)))
+  unfolding passing gatheredFrom held
+  passing-step =
+      let e : senders - s ≡ suc (senders - (s + 1)) = omega arith in
+      rw e (rw (add-one s) (go (isMarked (t .marks) s) (gatheredFrom t (suc s) (senders - suc s))))
+    where
+      go : (b : Bool) (es : List Estimate) → passing P (cond b (placed t s ∷ es) es) ≡ bump (P (cond b (placed t s) Blank)) (passing P es)
+      go true es = refl
+      go false es = rw blank
+
+  pub first-step : first P (rest t s) ≡ cond (P (held t s)) (held t s) (first P (rest t (s + 1)))
+  unfolding first gatheredFrom held
+  first-step =
+      let e : senders - s ≡ suc (senders - (s + 1)) = omega arith in
+      rw e (rw (add-one s) (go (isMarked (t .marks) s) (gatheredFrom t (suc s) (senders - suc s))))
+    where
+      go : (b : Bool) (es : List Estimate) → first P (cond b (placed t s ∷ es) es) ≡ cond (P (cond b (placed t s) Blank)) (cond b (placed t s) Blank) (first P es)
+      go true es = refl
+      go false es = rw blank
+
+-- those gathered that pass a test are the marked senders whose estimate does
+module _ (P : Estimate → Bool) (t : Tally) where
+  abbrev Q : ℕ → Bool
+  Q u = isMarked (t .marks) u && P (placed t u)
+
+  passing-from : (s k : ℕ) → passing P (gatheredFrom t s k) + count s Q ≡ count (s + k) Q
+  unfolding passing gatheredFrom
+  passing-from s zero = rw add-zero (zero-add (count s Q))
+  passing-from s (suc k) =
+      go (isMarked (t .marks) s) refl ∙ passing-from (suc s) k ∙ ap (λ (x : ℕ). count x Q) (suc-add s k ∙ sym (add-suc s k))
+    where
+      later : List Estimate
+      later = gatheredFrom t (suc s) k
+
+      go : (b : Bool) → isMarked (t .marks) s ≡ b → passing P (cond b (placed t s ∷ later) later) + count s Q ≡ passing P later + count (suc s) Q
+      go false e = rw e
+      go true e = rw e (by (P (placed t s)))
+        where
+          by : (c : Bool) → bump c (passing P later) + count s Q ≡ passing P later + bump c (count s Q)
+          by true = omega arith
+          by false = refl
+
+  pub passing-senders : passing P (gathered t) ≡ count senders Q
+  unfolding gathered
+  passing-senders = sym (add-zero (passing P (gatheredFrom t 0 senders))) ∙ passing-from 0 senders
+
+-- those gathered are as many as the ones of the marks
+pub length-gathered : (t : Tally) → t .marks < 2 ^ senders → length (gathered t) ≡ ones (t .marks)
+unfolding passing
+length-gathered t h =
+    every (gathered t)
+    ∙ passing-senders (λ e. true) t
+    ∙ count-same senders (λ u. isMarked (t .marks) u && true) (isMarked (t .marks)) (λ u b. and-true (isMarked (t .marks) u))
+    ∙ sym (ones-senders (t .marks) h)
+  where
+    every : (es : List Estimate) → length es ≡ passing (λ e. true) es
+    every [] = refl
+    every (e ∷ es) = ap suc (every es)
+
+-- the holders of v, counted over unit numbers
+pub holders-senders : (v : ℕ) (t : Tally) → holders v (gathered t) ≡ count senders (λ u. holds v (held t u))
+unfolding holders held
+holders-senders v t =
+    passing-senders (holds v) t
+    ∙ count-same senders (λ u. isMarked (t .marks) u && holds v (placed t u)) (λ u. holds v (cond (isMarked (t .marks) u) (placed t u) Blank))
+        (λ u b. go (isMarked (t .marks) u) (placed t u))
+  where
+    go : (b : Bool) (e : Estimate) → (b && holds v e) ≡ holds v (cond b e Blank)
+    go true e = refl
+    go false e = refl
+
+-- a sender that is marked holds its estimate, and the others keep theirs
+pub held-same : (t : Tally) (s : ℕ) (e : Estimate) → s < length (t .cells) → held (mark t s e) s ≡ e
+unfolding held mark
+held-same t s e h =
+    rw (mark-same (t .marks) s) (ap (λ (c : Cell). c .estimate) (getD-set-same (t .cells) s (record { estimate = e }) blankCell h))
+
+pub held-other : (t : Tally) (s u : ℕ) (e : Estimate) → (u ≡ s → ⊥) → held (mark t s e) u ≡ held t u
+unfolding held mark
+held-other t s u e n =
+    rw (mark-other (t .marks) s u n)
+    (ap (λ (c : Cell). cond (isMarked (t .marks) u) (c .estimate) Blank) (getD-set-other (t .cells) s u (record { estimate = e }) blankCell n))

@@ -1,0 +1,58 @@
+-- The invariant: the lowest is among those still to come. Assumes nothing.
+use Prim.Native.Nat.{_+_, _-_, _≤_}
+use mathlib.Core.Path.{_≡_, refl, sym, ap, _∙_}
+use native.Mathlib.Omega.{arith}
+use borrow.Author.Needs.{needs}
+use Rattle.tally.specs.Limits.{senders}
+use Rattle.tally.specs.Gathered.{isSome, first, lowest}
+use Rattle.tally.specs.Tally.{gathered, gatheredFrom}
+use Rattle.tally.proofs.Tallies.{rest, first-step}
+use Rattle.tally.proofs.Tally.lowest.Statement.{statement}
+use Rattle.tally.proofs.Tally.lowest.Tie as tie
+
+abbrev Inv-loop : tie.InvT-loop
+Inv-loop self s₀ s = (s ≤ senders) × (first isSome (rest self s) ≡ lowest (gathered self))
+
+abbrev μ-loop : tie.MeasureT-loop
+μ-loop self s₀ s = senders - s
+
+loop-holds : tie.Need-loop-holds Inv-loop μ-loop
+unfolding lowest gathered
+loop-holds c = (omega arith, refl)
+
+returns : tie.Need-returns Inv-loop μ-loop
+returns c =
+    let l = c .before .before .before .before .loop in
+    let self = c .before .before .before .before .before .args .self in
+    let test = c .before .is-some .ensures ∙ ap isSome (c .before .before .held .ensures) in
+    let step = rw (← test, c .if1 .taken) at (first-step isSome refl self (l .s) (c .before .before .before .loop-test .taken)) in
+    c .before .before .held .ensures ∙ sym step ∙ l .inv .1
+
+loop-again : tie.Need-loop-again Inv-loop μ-loop
+loop-again c =
+    let l = c .before .before .before .before .loop in
+    let self = c .before .before .before .before .before .args .self in
+    let test = c .before .is-some .ensures ∙ ap isSome (c .before .before .held .ensures) in
+    let step = rw (← test, c .if1 .left) at (first-step isSome refl self (l .s) (c .before .before .before .loop-test .taken)) in
+    (omega arith, sym step ∙ l .inv .1)
+
+returns-2 : tie.Need-returns-2 Inv-loop μ-loop
+unfolding first gatheredFrom
+returns-2 c =
+    let e : c .before .loop .s ≡ senders = omega arith in
+    rw e at (c .before .loop .inv .1)
+
+pub lowest-spec : {M : Type 1} → statement M
+lowest-spec =
+    tie.close
+    (tie.spec
+    Inv-loop
+    μ-loop
+    loop-holds
+    (λ c κs. search needs)
+    (λ c κs. search needs)
+    returns
+    (λ c. search needs)
+    (λ c. search needs)
+    loop-again
+    returns-2)

@@ -1,0 +1,6 @@
+pub mod Limits
+pub mod Refusal
+pub mod Count
+pub mod Quorum
+pub mod Gathered
+pub mod Tally

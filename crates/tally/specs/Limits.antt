@@ -1,0 +1,58 @@
+-- Every limit and code of the scope paper, once. `src/limits.rt` has the same for the code. Assumes nothing.
+use Prim.Native.Nat.{ℕ, _+_}
+
+-- what later versions of the core may set otherwise
+pub record Limits : Type 0 where
+  pub maxMileage : ℕ
+  pub lastRound : ℕ
+  pub roundWidth : ℕ
+
+-- mileage: 0 to 9,999,999; round: 0 to 9,999, in 2 bytes
+abbrev pub today : Limits
+today = record { maxMileage = 9999999; lastRound = 9999; roundWidth = 2 }
+
+-- units n: 3 to 16
+abbrev pub minUnits : ℕ
+minUnits = 3
+
+abbrev pub maxUnits : ℕ
+maxUnits = 16
+
+-- a tally has a place for each unit number
+abbrev pub senders : ℕ
+senders = maxUnits
+
+-- entry: 1 to 9,999
+abbrev pub minEntry : ℕ
+minEntry = 1
+
+abbrev pub maxEntry : ℕ
+maxEntry = 9999
+
+-- blank and split, as they are stored
+abbrev pub blankCode : ℕ
+blankCode = 4294967295
+
+abbrev pub splitCode : ℕ
+splitCode = 4294967294
+
+-- the receiver of F, C and S
+abbrev pub everyone : ℕ
+everyone = 255
+
+-- a log has 20 bytes, an image 152, a message 18, of which 2 are the round
+abbrev pub logSize : Limits → ℕ
+logSize l = 18 + l .roundWidth
+
+abbrev pub imageSize : Limits → ℕ
+imageSize l = 150 + l .roundWidth
+
+abbrev pub messageSize : Limits → ℕ
+messageSize l = 16 + l .roundWidth
+
+-- the bench has 128 message places; a script is at most 32,768 bytes
+abbrev pub places : ℕ
+places = 128
+
+abbrev pub scriptSize : ℕ
+scriptSize = 32768

@@ -1,0 +1,219 @@
+// Engines, quorums, and tallies of estimates by sender.
+pub mod limits;
+ghost use mathlib.Core.Path.{_≡_};
+ghost use Prim.Native.Nat.{_<_, _≤_, _-_};
+ghost use lib.Count.{ones};
+ghost use Rattle.tally.specs.Limits.{senders};
+ghost use Rattle.tally.specs.Quorum.{quorumOf, majorityOf};
+ghost use Rattle.tally.specs.Tally.{isMarked, noMarks, mark, held, gathered, gatheredFrom};
+ghost use Rattle.tally.specs.Gathered.{isSome, holds, holders, common, lowest, leads, first, majority};
+
+pub enum Engine {
+    B,
+    R,
+}
+
+pub enum Estimate {
+    Blank,
+    Split,
+    Mileage(u32),
+}
+
+// Why a call is turned down: the rows of the scope paper's table, in its order.
+pub enum Refusal {
+    None,
+    Length,
+    Log,
+    Image,
+    Message,
+    Addressee,
+    Mileage,
+    LastRound,
+    Line,
+    Power,
+    Unsent,
+    Full,
+}
+
+// One of the sixteen estimates of a tally.
+pub struct Cell {
+    pub estimate: Estimate,
+}
+
+// The senders that have been counted, and what each of them sent.
+pub struct Tally {
+    pub marks: u16,
+    pub cells: [Cell; 16],
+}
+
+// How many units a decision takes.
+pub fn quorum(engine: Engine, n: u8) -> u32
+    ensures { λ r. ⌜ r ≡ quorumOf engine n ⌝ }
+{
+    let k = n as u32;
+    match engine {
+        Engine::B => (k + 2) / 2,
+        Engine::R => (2 * k + 3) / 3,
+    }
+}
+
+// How many of R's quorum are a majority.
+pub fn majority(n: u8) -> u32
+    ensures { λ r. ⌜ r ≡ majorityOf n ⌝ }
+{
+    quorum(Engine::R, n) / 2 + 1
+}
+
+pub fn is_marked(marks: u16, sender: u8) -> bool
+    requires { ⌜ sender < senders ⌝ }
+    ensures { λ r. ⌜ r ≡ isMarked marks sender ⌝ }
+{
+    (marks >> sender) % 2 == 1
+}
+
+pub fn is_some(e: Estimate) -> bool
+    ensures { λ r. ⌜ r ≡ isSome e ⌝ }
+{
+    match e {
+        Estimate::Blank => false,
+        Estimate::Split => false,
+        Estimate::Mileage(_) => true,
+    }
+}
+
+// Is it this mileage?
+pub fn holds(e: Estimate, v: u32) -> bool
+    ensures { λ r. ⌜ r ≡ holds v e ⌝ }
+{
+    match e {
+        Estimate::Blank => false,
+        Estimate::Split => false,
+        Estimate::Mileage(w) => w == v,
+    }
+}
+
+impl Tally {
+    pub fn empty() -> Tally
+        ensures { λ r. ⌜ r ≡ noMarks ⌝ }
+    {
+        let blank = Cell {
+            estimate: Estimate::Blank,
+        };
+        Tally {
+            marks: 0,
+            cells: [blank; 16],
+        }
+    }
+
+    pub fn mark(self, sender: u8, estimate: Estimate) -> Tally
+        requires { ⌜ sender < senders ⌝ }
+        ensures { λ r. ⌜ r ≡ mark self sender estimate ⌝ }
+    {
+        let at = sender as usize;
+        let mut cells = self.cells;
+        cells[at] = Cell { estimate };
+        Tally {
+            marks: self.marks | (1 << sender),
+            cells,
+        }
+    }
+
+    // How many senders are marked.
+    pub fn count(self) -> u32
+        ensures { λ r. ⌜ r ≡ ones (self .marks) ⌝ }
+    {
+        u16::count_ones(self.marks)
+    }
+
+    // What a sender is marked with; blank where it is not marked.
+    pub fn held(self, sender: u8) -> Estimate
+        requires { ⌜ sender < senders ⌝ }
+        ensures { λ r. ⌜ r ≡ held self sender ⌝ }
+    {
+        if is_marked(self.marks, sender) {
+            let at = sender as usize;
+            let cells = self.cells;
+            let c = cells[at];
+            c.estimate
+        } else {
+            Estimate::Blank
+        }
+    }
+
+    // How many of the marked hold the mileage v.
+    pub fn holders(self, v: u32) -> u32
+        ensures { λ r. ⌜ r ≡ holders v (gathered self) ⌝ }
+    {
+        let mut n: u32 = 0;
+        for s in 0..limits::MAX_UNITS {
+            if holds(self.held(s), v) {
+                n += 1;
+            }
+        }
+        n
+    }
+
+    // The mileage of the lowest marked sender that has one; blank where none has.
+    pub fn lowest(self) -> Estimate
+        ensures { λ r. ⌜ r ≡ lowest (gathered self) ⌝ }
+    {
+        for s in 0..limits::MAX_UNITS {
+            let e = self.held(s);
+            if is_some(e) {
+                return e;
+            }
+        }
+        Estimate::Blank
+    }
+
+    // The mileage that all the marked hold; split where they differ.
+    pub fn common(self) -> Estimate
+        ensures { λ r. ⌜ r ≡ common (gathered self) ⌝ }
+    {
+        let low = self.lowest();
+        match low {
+            Estimate::Blank => Estimate::Split,
+            Estimate::Split => Estimate::Split,
+            Estimate::Mileage(v) => {
+                if self.holders(v) == self.count() {
+                    low
+                } else {
+                    Estimate::Split
+                }
+            }
+        }
+    }
+
+    // Is it a mileage that at least `need` of the marked hold?
+    pub fn leads(self, need: u32, e: Estimate) -> bool
+        ensures { λ r. ⌜ r ≡ leads need (gathered self) e ⌝ }
+    {
+        match e {
+            Estimate::Blank => false,
+            Estimate::Split => false,
+            Estimate::Mileage(v) => need <= self.holders(v),
+        }
+    }
+
+    // The mileage that at least `need` of the marked hold; blank where there is none.
+    pub fn majority(self, need: u32) -> Estimate
+        ensures { λ r. ⌜ r ≡ majority need (gathered self) ⌝ }
+    {
+        leader_from(self, need, 0)
+    }
+}
+
+// The first estimate, from a unit number on, that leads: a recursion over unit numbers.
+pub fn leader_from(t: Tally, need: u32, sender: u8) -> Estimate
+    requires { ⌜ sender ≤ senders ⌝ }
+    ensures { λ r. ⌜ r ≡ first (leads need (gathered t)) (gatheredFrom t sender (senders - sender)) ⌝ }
+{
+    if sender == limits::MAX_UNITS {
+        return Estimate::Blank;
+    }
+    let e = t.held(sender);
+    if t.leads(need, e) {
+        return e;
+    }
+    leader_from(t, need, sender + 1)
+}
