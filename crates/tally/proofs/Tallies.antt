@@ -91,7 +91,7 @@ unfolding holders held
 holders-senders v t =
     passing-senders (holds v) t
     ∙ count-same senders (λ u. isMarked (t .marks) u && holds v (placed t u)) (λ u. holds v (cond (isMarked (t .marks) u) (placed t u) Blank))
-        (λ u b. go (isMarked (t .marks) u) (placed t u))
+    (λ u b. go (isMarked (t .marks) u) (placed t u))
   where
     go : (b : Bool) (e : Estimate) → (b && holds v e) ≡ holds v (cond b e Blank)
     go true e = refl

@@ -1,11 +1,12 @@
 // Engines, quorums, and tallies of estimates by sender.
 pub mod limits;
+
 ghost use mathlib.Core.Path.{_≡_};
 ghost use Prim.Native.Nat.{_<_, _≤_, _-_};
 ghost use lib.Count.{ones};
 ghost use Rattle.tally.specs.Limits.{senders};
 ghost use Rattle.tally.specs.Quorum.{quorumOf, majorityOf};
-ghost use Rattle.tally.specs.Tally.{isMarked, noMarks, mark, held, gathered, gatheredFrom};
+ghost use Rattle.tally.specs.Tally.{isMarked, noMarks, mark, placed, held, gathered, gatheredFrom};
 ghost use Rattle.tally.specs.Gathered.{isSome, holds, holders, common, lowest, leads, first, majority};
 
 pub enum Engine {
@@ -125,16 +126,24 @@ impl Tally {
         u16::count_ones(self.marks)
     }
 
+    // The estimate in a sender's place.
+    pub fn placed(self, sender: u8) -> Estimate
+        requires { ⌜ sender < senders ⌝ }
+        ensures { λ r. ⌜ r ≡ placed self sender ⌝ }
+    {
+        let at = sender as usize;
+        let cells = self.cells;
+        let c = cells[at];
+        c.estimate
+    }
+
     // What a sender is marked with; blank where it is not marked.
     pub fn held(self, sender: u8) -> Estimate
         requires { ⌜ sender < senders ⌝ }
         ensures { λ r. ⌜ r ≡ held self sender ⌝ }
     {
         if is_marked(self.marks, sender) {
-            let at = sender as usize;
-            let cells = self.cells;
-            let c = cells[at];
-            c.estimate
+            self.placed(sender)
         } else {
             Estimate::Blank
         }

@@ -11,9 +11,6 @@ use Rattle.tally.specs.Tally.{gathered, gatheredFrom}
 use Rattle.tally.proofs.Tallies.{first-step}
 use Rattle.tally.proofs.leader_from.Reads as own
 use Rattle.tally.proofs.leader_from.Kinds as kinds
-use Rattle.tally.proofs.+leader_from.Lts-leader_from as lts
-use Rattle.tally.proofs.Tally.held.Reads as held-reads
-use Rattle.tally.proofs.Tally.leads.Reads as leads-reads
 use Rattle.tally.proofs.+leader_from.{statement}
 use Rattle.tally.proofs.+leader_from.Tie.{close}
 
@@ -33,16 +30,16 @@ unfolding first leads gatheredFrom
     (λ c κs. omega arith)
     (λ c κs. search needs)
     (λ c.
-        let l = c .before in
-        let P = leads (l .before .before .before .args .need) (gathered (l .before .before .before .args .t)) in
-        let test = l .leads .ensures ∙ ap P (l .before .held .ensures) in
-        let step = rw (← test, c .if2 .taken) at (first-step P refl (l .before .before .before .args .t) (l .before .before .before .args .sender) (omega arith)) in
-        l .before .held .ensures ∙ sym step)
+    let l = c .before in
+    let P = leads (l .before .before .before .args .need) (gathered (l .before .before .before .args .t)) in
+    let test = l .leads .ensures ∙ ap P (l .before .held .ensures) in
+    let step = rw (← test, c .if2 .taken) at (first-step P refl (l .before .before .before .args .t) (l .before .before .before .args .sender) (omega arith)) in
+    l .before .held .ensures ∙ sym step)
     (λ c. search needs)
     (λ c κs. (omega arith, omega arith))
     (λ c.
-        let l = c .before .before in
-        let P = leads (l .before .before .before .args .need) (gathered (l .before .before .before .args .t)) in
-        let test = l .leads .ensures ∙ ap P (l .before .held .ensures) in
-        let step = rw (← test, c .before .if2 .left) at (first-step P refl (l .before .before .before .args .t) (l .before .before .before .args .sender) (omega arith)) in
-        c .leader-from .ensures ∙ sym step)
+    let l = c .before .before in
+    let P = leads (l .before .before .before .args .need) (gathered (l .before .before .before .args .t)) in
+    let test = l .leads .ensures ∙ ap P (l .before .held .ensures) in
+    let step = rw (← test, c .before .if2 .left) at (first-step P refl (l .before .before .before .args .t) (l .before .before .before .args .sender) (omega arith)) in
+    c .leader-from .ensures ∙ sym step)

@@ -6,11 +6,11 @@ use Rattle.tally.proofs.Tally.held.Tie as tie
 
 returns : tie.Need-returns
 unfolding held
-returns c = rw (sym (c .before .before .before .is-marked .ensures) ∙ c .before .before .if1 .taken)
+returns c = rw (sym (c .before .before .is-marked .ensures) ∙ c .before .if1 .taken) (c .placed .ensures)
 
 returns-2 : tie.Need-returns-2
 unfolding held
 returns-2 c = rw (sym (c .before .is-marked .ensures) ∙ c .if1 .left)
 
 pub held-spec : {M : Type 1} → statement M
-held-spec = tie.close (tie.spec (λ c κs. search needs) (λ c. search needs) (λ c. search needs) returns returns-2)
+held-spec = tie.close (tie.spec (λ c κs. search needs) (λ c κs. search needs) returns returns-2)

@@ -27,11 +27,13 @@ loop-again c =
     let self = c .before .before .before .before .before .args .self in
     let v = c .before .before .before .before .before .args .v in
     let test = c .before .holds .ensures ∙ ap (holds v) (c .before .before .held .ensures) in
-    let step = rw (← test) at (passing-step (holds v) refl self (l .s) (c .before .before .before .loop-test .taken)) in
-    (omega arith, (
-      ⊎-elim (λ w. omega arith) (λ w. omega arith) (c .if1 .came),
-      ⊎-elim (λ w. let turn = rw (w .0 .taken) at step in omega arith) (λ w. let turn = rw (w .0 .left) at step in omega arith) (c .if1 .came),
-    ))
+    let step = rw (← test) at (passing-step (holds v) refl self (l .s) (c .before .before .before .loop-test .taken)) in (
+      omega arith,
+      (
+        ⊎-elim (λ w. omega arith) (λ w. omega arith) (c .if1 .came),
+        ⊎-elim (λ w. let turn = rw (w .0 .taken) at step in omega arith) (λ w. let turn = rw (w .0 .left) at step in omega arith) (c .if1 .came),
+      ),
+    )
 
 returns : tie.Need-returns Inv-loop μ-loop
 unfolding passing gatheredFrom

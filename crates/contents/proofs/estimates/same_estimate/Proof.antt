@@ -1,0 +1,20 @@
+use borrow.Author.Needs.{needs}
+use Rattle.contents.proofs.estimates.same_estimate.Statement.{statement}
+use Rattle.contents.proofs.estimates.same_estimate.Tie as tie
+
+returns-3 : tie.Need-returns-3
+returns-3 c = rw (c .before .before .a .given .1) (c .holds .ensures)
+
+pub same-estimate-spec : {M : Type 1} → statement M
+same-estimate-spec =
+    tie.close
+    (tie.spec
+    (λ c. search needs)
+    (λ c κs. search needs)
+    (λ c. search needs)
+    (λ c κs. search needs)
+    (λ c. search needs)
+    (λ c κs. search needs)
+    (λ c. search needs)
+    (λ c. search needs)
+    returns-3)

@@ -1,0 +1,12 @@
+use Rattle.contents.specs.Images.{placeOk}
+use borrow.Author.Needs.{needs}
+use Rattle.contents.proofs.images.place_ok.Statement.{statement}
+use Rattle.contents.proofs.images.place_ok.Tie as tie
+
+returns : tie.Need-returns
+unfolding placeOk
+returns c = cc
+
+pub place-ok-spec : {M : Type 1} → statement M
+place-ok-spec =
+    tie.close (tie.spec (λ c κs. search needs) (λ c κs. search needs) (λ c κs. search needs) returns)

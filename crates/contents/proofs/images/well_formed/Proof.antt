@@ -1,0 +1,20 @@
+use Rattle.contents.specs.Images.{imageOk}
+use borrow.Author.Needs.{needs}
+use Rattle.contents.proofs.images.well_formed.Statement.{statement}
+use Rattle.contents.proofs.images.well_formed.Tie as tie
+
+returns : tie.Need-returns
+unfolding imageOk
+returns c = cc
+
+pub well-formed-spec : {M : Type 1} → statement M
+well-formed-spec =
+    tie.close
+    (tie.spec
+    (λ c κs. search needs)
+    (λ c κs. search needs)
+    (λ c κs. search needs)
+    (λ c κs. search needs)
+    (λ c κs. search needs)
+    (λ c κs. search needs)
+    returns)

@@ -1,0 +1,70 @@
+-- Well-formed images, and images that fit their logs. Assumes nothing.
+use Prim.Native.Nat.{ℕ, zero, suc}
+use mathlib.Core.Bool.{Bool, true, false, not, _&&_, _||_}
+use lib.Count.{ones}
+use lib.Dec.{eqb, ltb}
+use Rattle.tally.specs.Limits.{Limits, senders}
+use Rattle.tally.specs.Quorum.{quorumOf}
+use Rattle.tally.specs.Tally.{isMarked, placed}
+use Rattle.tally.specs.declared.Engine.{Engine}
+use Rattle.tally.specs.declared.Estimate.{Estimate}
+use Rattle.tally.specs.declared.Tally.{Tally}
+use Rattle.contents.specs.Estimates.{isB, isBlank, isSplit, isMileage, sameEngine, sameEstimate}
+use Rattle.contents.specs.Logs.{logOk}
+use Rattle.contents.specs.declared.Image.{Image}
+use Rattle.contents.specs.declared.Log.{Log}
+use Rattle.contents.specs.declared.Settings.{Settings}
+use Rattle.contents.specs.declared.State.{State}
+
+-- 20 bytes laid out as a log, with current contents
+abbrev pub logOf : Image → Log
+logOf i = record { settings = i .settings; state = i .state }
+
+-- all numbers below k pass the test P
+unfoldable pub every : ℕ → (ℕ → Bool) → Bool
+every zero P = true
+every (suc k) P = every k P && P k
+
+-- only units below n are marked
+abbrev pub belowOk : ℕ → ℕ → Bool → Bool
+belowOk n s marked = not marked || ltb s n
+
+-- unmarked estimates are blank
+abbrev pub unmarkedOk : Bool → Estimate → Bool
+unmarkedOk marked e = marked || isBlank e
+
+-- CHECK estimates are mileages; SECOND estimates are mileages or, in B, split: `split` says whether it is allowed
+abbrev pub markedOk : Limits → Bool → Bool → Estimate → Bool
+markedOk l split marked e = not marked || isMileage l e || (split && isSplit e)
+
+unfoldable pub placeOk : Limits → Bool → ℕ → ℕ → Bool → Estimate → Bool
+placeOk l split n s marked e = belowOk n s marked && unmarkedOk marked e && markedOk l split marked e
+
+-- these three, of every sender
+unfoldable pub placesOk : Limits → Bool → ℕ → Tally → Bool
+placesOk l split n t = every senders (λ s. placeOk l split n s (isMarked (t .marks) s) (placed t s))
+
+-- each count is below the quorum
+unfoldable pub tallyOk : Limits → Bool → Engine → ℕ → Tally → Bool
+tallyOk l split g n t = placesOk l split n t && ltb (ones (t .marks)) (quorumOf g n)
+
+-- in R, or when the second estimate is not blank, there are no CHECK marks
+unfoldable pub imageOk : Limits → Image → Bool
+imageOk l i =
+    logOk l (logOf i)
+    && tallyOk l false (i .settings .engine) (i .settings .n) (i .checks)
+    && tallyOk l (isB (i .settings .engine)) (i .settings .engine) (i .settings .n) (i .seconds)
+    && ((isB (i .settings .engine) && isBlank (i .state .second)) || eqb (i .checks .marks) 0)
+
+-- an image fits its log when engine, n, unit and entry agree,
+unfoldable pub sameSettings : Settings → Settings → Bool
+sameSettings a b = sameEngine (a .engine) (b .engine) && eqb (a .n) (b .n) && eqb (a .unit) (b .unit) && eqb (a .entry) (b .entry)
+
+-- and either the rounds are equal and both estimates too, or the image's round is higher and both its estimates are blank
+unfoldable pub stateFits : State → State → Bool
+stateFits i l =
+    (eqb (i .round) (l .round) && sameEstimate (i .first) (l .first) && sameEstimate (i .second) (l .second))
+    || (ltb (l .round) (i .round) && isBlank (i .first) && isBlank (i .second))
+
+unfoldable pub fits : Image → Log → Bool
+fits i l = sameSettings (i .settings) (l .settings) && stateFits (i .state) (l .state)

@@ -1,0 +1,4 @@
+pub mod Estimates
+pub mod Logs
+pub mod Images
+pub mod Messages
