@@ -11,6 +11,9 @@ use Rattle.tally.specs.Tally.{gathered, gatheredFrom}
 use Rattle.tally.proofs.Tallies.{first-step}
 use Rattle.tally.proofs.leader_from.Reads as own
 use Rattle.tally.proofs.leader_from.Kinds as kinds
+use Rattle.tally.proofs.Tally.held.Reads as held-reads
+use Rattle.tally.proofs.Tally.leads.Reads as leads-reads
+use Rattle.tally.proofs.+leader_from.Lts-leader_from as lts
 use Rattle.tally.proofs.+leader_from.{statement}
 use Rattle.tally.proofs.+leader_from.Tie.{close}
 
