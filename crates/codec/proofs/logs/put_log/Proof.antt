@@ -1,0 +1,17 @@
+use borrow.Author.Needs.{needs}
+use Rattle.codec.proofs.logs.put_log.Statement.{statement}
+use Rattle.codec.proofs.logs.put_log.Tie as tie
+
+returns : tie.Need-returns
+returns c = cc
+
+pub put-log-spec : {M : Type 1} → statement M
+put-log-spec =
+    tie.close
+    (tie.spec
+    (λ c κs. search needs)
+    (λ c κs. search needs)
+    (λ c κs. search needs)
+    (λ c κs. search needs)
+    (λ c. search needs)
+    returns)

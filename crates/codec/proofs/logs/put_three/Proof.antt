@@ -1,0 +1,22 @@
+use borrow.Author.Needs.{needs}
+use Rattle.codec.proofs.logs.put_three.Statement.{statement}
+use Rattle.codec.proofs.logs.put_three.Tie as tie
+
+returns : tie.Need-returns
+returns c = cc
+
+pub put-three-spec : {M : Type 1} → statement M
+put-three-spec =
+    tie.close
+    (tie.spec
+    (λ c κs. search needs)
+    (λ c κs. search needs)
+    (λ c. search needs)
+    (λ c κs. search needs)
+    (λ c κs. search needs)
+    (λ c. search needs)
+    (λ c. search needs)
+    (λ c κs. search needs)
+    (λ c κs. search needs)
+    (λ c. search needs)
+    returns)

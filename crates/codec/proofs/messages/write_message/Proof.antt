@@ -1,0 +1,72 @@
+use mathlib.Core.Path.{_≡_, refl, sym, ap, _∙_}
+use lib.ListN.{length}
+use borrow.Author.Tests.{eq-eqb, ne-eqb, not-true, not-false}
+use Rattle.codec.specs.Formats.{wrote, withZero}
+use Rattle.codec.specs.Messages.{messageWidths, zeroPlace, messageNumbers, writeMessage}
+use Rattle.tally.specs.Limits.{today}
+use Rattle.codec.proofs.Rows.{packInto-eq}
+use Rattle.codec.proofs.Cleared.{length-cleared}
+use borrow.Author.Needs.{needs}
+use Rattle.codec.proofs.messages.write_message.Statement.{statement}
+use Rattle.codec.proofs.messages.write_message.Tie as tie
+
+clear-requires : tie.Need-clear-requires
+clear-requires c κs = search needs
+
+same-length : tie.Need-same-length
+same-length c = search needs
+
+returns : tie.Need-returns
+unfolding writeMessage
+returns c = 
+    let cleared-out = c .before .before .before .clear .ensures in
+    let bs = c .before .before .before .before .before .before .args .out .now in
+    let long = ap length cleared-out ∙ length-cleared today bs in
+    rw (ne-eqb _ _ (λ e. c .if1 .taken (long ∙ e))) (ap (wrote 1) cleared-out)
+
+well-formed-requires : tie.Need-well-formed-requires
+well-formed-requires c κs = search needs
+
+same-length-2 : tie.Need-same-length-2
+same-length-2 c = search needs
+
+returns-2 : tie.Need-returns-2
+unfolding writeMessage
+returns-2 c = 
+    let cleared-out = c .before .before .before .before .before .clear .ensures in
+    let bs = c .before .before .before .before .before .before .before .before .args .out .now in
+    let long = ap length cleared-out ∙ length-cleared today bs in
+    rw (eq-eqb _ _ (sym long ∙ c .before .before .if1 .left), sym (c .before .well-formed .ensures) ∙ not-true _ (c .if2 .taken)) (ap (wrote 4) cleared-out)
+
+put-message-requires : tie.Need-put-message-requires
+put-message-requires c κs = search needs
+
+same-length-3 : tie.Need-same-length-3
+same-length-3 c = search needs
+
+returns-3 : tie.Need-returns-3
+unfolding writeMessage
+returns-3 c = 
+    let cleared-out = c .before .before .before .before .before .before .before .before .before .clear .ensures in
+    let bs = c .before .before .before .before .before .before .before .before .before .before .before .before .args .out .now in
+    let long = ap length cleared-out ∙ length-cleared today bs in
+    let b = c .before .before .before .before in
+    let size = b .before .before .if1 .left in
+    rw (eq-eqb _ _ (sym long ∙ size), sym (b .before .well-formed .ensures) ∙ not-false _ (b .if2 .left))
+    (ap (wrote 0)
+    (c .before .before .put-message .ensures
+    ∙ packInto-eq (messageWidths today) (withZero zeroPlace (messageNumbers (c .before .before .before .before .before .before .before .before .before .before .before .before .args .m))) _ 0 refl (sym size)))
+
+pub write-message-spec : {M : Type 1} → statement M
+write-message-spec =
+    tie.close
+    (tie.spec
+    clear-requires
+    same-length
+    returns
+    well-formed-requires
+    same-length-2
+    returns-2
+    put-message-requires
+    same-length-3
+    returns-3)

@@ -1,0 +1,23 @@
+use native.Mathlib.Nat.{add-zero, add-assoc}
+use Rattle.codec.specs.Numbers.{numAt}
+use native.Mathlib.Omega.{arith}
+use borrow.Author.Needs.{needs}
+use Rattle.codec.proofs.numbers.be32.Statement.{statement}
+use Rattle.codec.proofs.numbers.be32.Tie as tie
+
+returns : tie.Need-returns
+unfolding numAt
+returns c = rw (c .before .be16 .ensures, c .be162 .ensures) (simp (add-zero, add-assoc) (omega arith))
+
+pub be32-spec : {M : Type 1} → statement M
+be32-spec =
+    tie.close
+    (tie.spec
+    (λ c κs. search needs)
+    (λ c. search needs)
+    (λ c. search needs)
+    (λ c. search needs)
+    (λ c κs. search needs)
+    (λ c. search needs)
+    (λ c. search needs)
+    returns)

@@ -1,0 +1,21 @@
+-- `codec::put_four` meets its contract: the four stores are those of the row. Assumes nothing.
+use borrow.Author.Needs.{needs}
+use Rattle.codec.proofs.numbers.put_four.Statement.{statement}
+use Rattle.codec.proofs.numbers.put_four.Tie as tie
+
+pub put-four-spec : {M : Type 1} → statement M
+put-four-spec =
+    tie.close
+    (tie.spec
+    (λ c κs. search needs)
+    (λ c. search needs)
+    (λ c κs. search needs)
+    (λ c. search needs)
+    (λ c. search needs)
+    (λ c κs. search needs)
+    (λ c. search needs)
+    (λ c. search needs)
+    (λ c. search needs)
+    (λ c κs. search needs)
+    (λ c. search needs)
+    (λ c. cc))

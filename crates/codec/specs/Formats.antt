@@ -1,0 +1,73 @@
+-- Reading and writing contents as a row of numbers, one of which is a zero byte. Assumes nothing.
+use Prim.Native.Nat.{ℕ, suc}
+use mathlib.Core.Bool.{Bool, true, false, cond}
+use mathlib.Core.List.{List, [], _∷_, _++_}
+use mathlib.Core.Option.{Option, none, some}
+use lib.Dec.{eqb}
+use lib.ListN.{length, getD, take, drop}
+use Rattle.codec.specs.Numbers.{unpack, pack}
+
+-- what reading answers: the refusal's number or 0, and the contents
+pub record Reading (A : Type 0) : Type 0 where
+  pub number : ℕ
+  pub contents : A
+
+abbrev pub reading : {A : Type 0} → ℕ → A → Reading A
+reading k a = record { number = k; contents = a }
+
+-- what writing answers, and what its buffer holds then
+pub record Wrote : Type 0 where
+  pub number : ℕ
+  pub out : List ℕ
+
+abbrev pub wrote : ℕ → List ℕ → Wrote
+wrote k bs = record { number = k; out = bs }
+
+-- how contents are laid out
+pub record Format (A : Type 0) : Type 0 where
+  -- the length in bytes, and the bytes that each number takes
+  pub size : ℕ
+  pub widths : List ℕ
+  -- the place of the zero byte among the numbers
+  pub zeroAt : ℕ
+  -- the numbers of contents and back, the zero byte left out; no contents where a letter is unknown
+  pub numbers : A → List ℕ
+  pub parse : List ℕ → Option A
+  -- which contents are well formed, and the refusal's number of all others
+  pub ok : A → Bool
+  pub malformed : ℕ
+  -- what stands in the place of contents that are refused
+  pub nothing : A
+
+-- a row with a zero at place k, and without it
+abbrev pub withZero : ℕ → List ℕ → List ℕ
+withZero k vs = take k vs ++ (0 ∷ drop k vs)
+
+abbrev pub without : ℕ → List ℕ → List ℕ
+without k vs = take k vs ++ drop (suc k) vs
+
+-- contents are taken where they are known and well formed
+abbrev pub checked : {A : Type 0} → Format A → Option A → Reading A
+checked f none = reading (f .malformed) (f .nothing)
+checked f (some a) = cond (f .ok a) (reading 0 a) (reading (f .malformed) (f .nothing))
+
+-- contents from their numbers
+abbrev pub fromNumbers : {A : Type 0} → Format A → List ℕ → Reading A
+fromNumbers f vs = checked f (f .parse vs)
+
+-- contents from a row, whose zero byte must be 0
+abbrev pub fromRow : {A : Type 0} → Format A → List ℕ → Reading A
+fromRow f vs = cond (eqb (getD vs (f .zeroAt) 0) 0) (fromNumbers f (without (f .zeroAt) vs)) (reading (f .malformed) (f .nothing))
+
+-- reading the bytes bs: 1 where their length is wrong
+abbrev pub readBytes : {A : Type 0} → Format A → List ℕ → Reading A
+readBytes f bs = cond (eqb (length bs) (f .size)) (fromRow f (unpack 0 (f .widths) bs)) (reading 1 (f .nothing))
+
+-- the bytes of contents
+abbrev pub toBytes : {A : Type 0} → Format A → A → List ℕ
+toBytes f a = pack (f .widths) (withZero (f .zeroAt) (f .numbers a))
+
+-- writing a to a buffer that holds bs: refused as reading would, and then `kept` stands there
+abbrev pub writeBytes : {A : Type 0} → Format A → A → List ℕ → List ℕ → Wrote
+writeBytes f a kept bs =
+    cond (eqb (length bs) (f .size)) (cond (f .ok a) (wrote 0 (toBytes f a)) (wrote (f .malformed) kept)) (wrote 1 kept)

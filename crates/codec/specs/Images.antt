@@ -1,0 +1,101 @@
+-- The bytes of an image. Assumes nothing.
+use Prim.Native.Nat.{ℕ, _+_}
+use mathlib.Core.List.{List, [], _∷_, _++_, map}
+use mathlib.Core.Option.{Option, none, some}
+use lib.ListN.{length, getD, take, drop, replicate}
+use Rattle.tally.specs.Limits.{Limits, imageSize, senders}
+use Rattle.tally.specs.Refusal.{numberOf}
+use Rattle.tally.specs.Tally.{noMarks}
+use Rattle.tally.specs.declared.Cell.{Cell}
+use Rattle.tally.specs.declared.Engine.{Engine}
+use Rattle.tally.specs.declared.Refusal.{Refusal}
+use Rattle.tally.specs.declared.Tally.{Tally}
+use Rattle.contents.specs.Images.{logOf as recordOf, imageOk}
+use Rattle.contents.specs.declared.Image.{Image}
+use Rattle.contents.specs.declared.Log.{Log}
+use Rattle.codec.specs.Codes.{engineOf, codeOf, estimateOf}
+use Rattle.codec.specs.Formats.{Reading, reading, Wrote, Format, readBytes, toBytes, writeBytes}
+use Rattle.codec.specs.Logs.{logWidths, zeroPlace, logNumbers, logOf, noLog}
+use Rattle.codec.specs.Numbers.{total}
+use Rattle.codec.specs.declared.EngineRead.{EngineRead}
+use Rattle.codec.specs.declared.EngineRead.the-variants.{Is, Unknown}
+use Rattle.codec.specs.declared.ImageRead.{ImageRead}
+
+abbrev pub cellOf : ℕ → Cell
+cellOf x = record { estimate = estimateOf x }
+
+abbrev pub cellCode : Cell → ℕ
+cellCode c = codeOf (c .estimate)
+
+-- marks (2) and sixteen estimates (4 each)
+abbrev pub tallyWidths : List ℕ
+tallyWidths = 2 ∷ replicate senders 4
+
+abbrev pub tallySize : ℕ
+tallySize = total tallyWidths
+
+abbrev pub tallyNumbers : Tally → List ℕ
+tallyNumbers t = t .marks ∷ map cellCode (t .cells)
+
+abbrev pub tallyOf : List ℕ → Tally
+tallyOf vs = record { marks = getD vs 0 0; cells = map cellOf (drop 1 vs) }
+
+-- a log's bytes; CHECK marks and estimates; SECOND marks and estimates
+abbrev pub imageWidths : Limits → List ℕ
+imageWidths l = logWidths l ++ (tallyWidths ++ tallyWidths)
+
+abbrev pub imageNumbers : Image → List ℕ
+imageNumbers i = logNumbers (recordOf i) ++ (tallyNumbers (i .checks) ++ tallyNumbers (i .seconds))
+
+-- how many numbers a log and a tally have
+abbrev pub logLength : ℕ
+logLength = 8
+
+abbrev pub tallyLength : ℕ
+tallyLength = length tallyWidths
+
+abbrev pub withTallies : Log → Tally → Tally → Image
+withTallies r c s = record { settings = r .settings; state = r .state; checks = c; seconds = s }
+
+abbrev pub imageOf : Engine → List ℕ → Image
+imageOf e vs =
+    withTallies (logOf e (take logLength vs)) (tallyOf (take tallyLength (drop logLength vs))) (tallyOf (drop tallyLength (drop logLength vs)))
+
+abbrev pub letterRead : EngineRead → List ℕ → Option Image
+letterRead (Is e) vs = some (imageOf e vs)
+letterRead Unknown vs = none
+
+abbrev pub parseImage : List ℕ → Option Image
+parseImage vs = letterRead (engineOf (getD vs 0 0)) vs
+
+-- stands in the place of an image that is refused
+abbrev pub noImage : Image
+noImage = withTallies noLog noMarks noMarks
+
+-- 3: image malformed
+abbrev pub imageFormat : Limits → Format Image
+imageFormat l =
+    record {
+      size = imageSize l;
+      widths = imageWidths l;
+      zeroAt = zeroPlace;
+      numbers = imageNumbers;
+      parse = parseImage;
+      ok = imageOk l;
+      malformed = numberOf Refusal.Image;
+      nothing = noImage;
+    }
+
+-- the code's answer, as number and contents
+abbrev pub imageReading : ImageRead → Reading Image
+imageReading r = reading (numberOf (r .refusal)) (r .image)
+
+unfoldable pub readImage : Limits → List ℕ → Reading Image
+readImage l bs = readBytes (imageFormat l) bs
+
+unfoldable pub imageBytes : Limits → Image → List ℕ
+imageBytes l i = toBytes (imageFormat l) i
+
+-- a refused image write leaves every byte
+unfoldable pub writeImage : Limits → Image → List ℕ → Wrote
+writeImage l i bs = writeBytes (imageFormat l) i bs bs

@@ -1,0 +1,6 @@
+pub mod Numbers
+pub mod Formats
+pub mod Codes
+pub mod Logs
+pub mod Messages
+pub mod Images

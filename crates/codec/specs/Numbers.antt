@@ -1,0 +1,37 @@
+-- Numbers in bytes, the highest byte first, and rows of them, over the widths. Assumes nothing.
+use Prim.Native.Nat.{ℕ, zero, suc, _+_, _*_, _/_, _%_}
+use mathlib.Core.List.{List, [], _∷_, _++_}
+use lib.ListN.{getD}
+use lib.Seq.{sets}
+
+-- the number that the k bytes of bs from offset o hold
+unfoldable pub numAt : List ℕ → ℕ → ℕ → ℕ
+numAt bs o zero = 0
+numAt bs o (suc k) = numAt bs o k * 256 + getD bs (o + k) 0
+
+-- the k bytes that hold x
+unfoldable pub bytesOf : ℕ → ℕ → List ℕ
+bytesOf zero x = []
+bytesOf (suc k) x = bytesOf k (x / 256) ++ (x % 256 ∷ [])
+
+-- how many bytes a row of numbers takes, from their widths
+abbrev pub total : List ℕ → ℕ
+total [] = 0
+total (w ∷ ws) = w + total ws
+
+-- the numbers of a row that starts at o
+abbrev pub unpack : ℕ → List ℕ → List ℕ → List ℕ
+unpack o [] bs = []
+unpack o (w ∷ ws) bs = numAt bs o w ∷ unpack (o + w) ws bs
+
+-- the bytes of a row
+abbrev pub pack : List ℕ → List ℕ → List ℕ
+pack [] vs = []
+pack (w ∷ ws) [] = []
+pack (w ∷ ws) (v ∷ vs) = bytesOf w v ++ pack ws vs
+
+-- bs after each number has been stored in turn, the first at o
+abbrev pub packInto : List ℕ → ℕ → List ℕ → List ℕ → List ℕ
+packInto bs o [] vs = bs
+packInto bs o (w ∷ ws) [] = bs
+packInto bs o (w ∷ ws) (v ∷ vs) = packInto (sets bs o (bytesOf w v)) (o + w) ws vs

@@ -1,0 +1,183 @@
+// The 152 bytes of an image: those of a log, then two tallies.
+use super::EngineRead;
+use super::ImageRead;
+use super::codes;
+use super::logs;
+use super::numbers;
+use contents::Image;
+use contents::Log;
+use contents::Settings;
+use contents::State;
+use tally::Cell;
+use tally::Engine;
+use tally::Estimate;
+use tally::Refusal;
+use tally::Tally;
+use tally::limits;
+ghost use mathlib.Core.Path.{_≡_};
+ghost use mathlib.Core.List.{map};
+ghost use mathlib.Core.Option.{Option, some, none};
+ghost use Prim.Native.Nat.{_+_, _≤_};
+ghost use lib.ListN.{length, replicate};
+ghost use Rattle.tally.specs.Limits.{today, imageSize, senders};
+ghost use Rattle.tally.specs.Refusal.{numberOf};
+ghost use Rattle.codec.specs.Numbers.{unpack, packInto};
+ghost use Rattle.codec.specs.Formats.{without, wrote, checked};
+ghost use Rattle.codec.specs.Logs.{zeroPlace};
+ghost use Rattle.codec.specs.Images.{cellOf, cellCode, tallyWidths, tallySize, tallyOf, tallyNumbers, noImage};
+ghost use Rattle.codec.specs.Images.{imageWidths, imageOf, imageFormat, imageBytes, imageReading, readImage, writeImage};
+
+// Where the tallies stand, and where a tally's estimates do.
+const CELLS: usize = 2;
+
+const TALLY_SIZE: usize = CELLS + 64;
+
+const AT_CHECKS: usize = limits::LOG_SIZE;
+
+const AT_SECONDS: usize = AT_CHECKS + TALLY_SIZE;
+
+fn cells_at(s: &[u8], at: usize) -> [Cell; 16]
+    requires { ⌜ at + 64 ≤ length (now s) ⌝ }
+    ensures { λ r. ⌜ r ≡ map cellOf (unpack at (replicate senders 4) (now (s .entry))) ⌝ }
+{
+    let blank = Cell {
+        estimate: Estimate::Blank,
+    };
+    let mut cells = [blank; 16];
+    let mut from = at;
+    let mut k = 0;
+    while k < 16 {
+        let estimate = codes::estimate_of(numbers::be32(s, from));
+        cells[k] = Cell { estimate };
+        from += 4;
+        k += 1;
+    }
+    cells
+}
+
+fn tally_at(s: &[u8], at: usize) -> Tally
+    requires { ⌜ at + tallySize ≤ length (now s) ⌝ }
+    ensures { λ r. ⌜ r ≡ tallyOf (unpack at tallyWidths (now (s .entry))) ⌝ }
+{
+    Tally {
+        marks: numbers::be16(s, at),
+        cells: cells_at(s, at + CELLS),
+    }
+}
+
+fn put_cells(cells: [Cell; 16], out: &mut [u8], at: usize)
+    requires { ⌜ at + 64 ≤ length (now out) ⌝ }
+    ensures { λ _. ⌜ (now (out .exit) ≡ packInto (now (out .entry)) at (replicate senders 4) (map cellCode cells)) × (length cells ≡ senders) ⌝ }
+{
+    let mut from = at;
+    let mut k = 0;
+    while k < 16 {
+        let c = cells[k];
+        let e = c.estimate;
+        numbers::put32(out, from, codes::code_of(e));
+        from += 4;
+        k += 1;
+    }
+}
+
+fn put_tally(t: Tally, out: &mut [u8], at: usize)
+    requires { ⌜ at + tallySize ≤ length (now out) ⌝ }
+    ensures { λ _. ⌜ (now (out .exit) ≡ packInto (now (out .entry)) at tallyWidths (tallyNumbers t)) × (length (t .cells) ≡ senders) ⌝ }
+{
+    numbers::put16(out, at, t.marks);
+    let cells = t.cells;
+    put_cells(cells, out, at + CELLS);
+}
+
+fn image_at(engine: Engine, s: &[u8]) -> Image
+    requires { ⌜ length (now s) ≡ imageSize today ⌝ }
+    ensures { λ r. ⌜ r ≡ imageOf engine (without zeroPlace (unpack 0 (imageWidths today) (now (s .entry)))) ⌝ }
+{
+    let log = logs::log_at(engine, s);
+    let settings = log.settings;
+    let state = log.state;
+    Image {
+        settings,
+        state,
+        checks: tally_at(s, AT_CHECKS),
+        seconds: tally_at(s, AT_SECONDS),
+    }
+}
+
+// What stands in the place of an image that is refused.
+fn refused(refusal: Refusal) -> ImageRead
+    ensures { λ r. ⌜ (r .refusal ≡ refusal) × (r .image ≡ noImage) ⌝ }
+{
+    let settings = Settings {
+        engine: Engine::B,
+        n: 0,
+        unit: 0,
+        entry: 0,
+    };
+    let state = State {
+        round: 0,
+        proposal: Estimate::Blank,
+        first: Estimate::Blank,
+        second: Estimate::Blank,
+    };
+    let image = Image {
+        settings,
+        state,
+        checks: Tally::empty(),
+        seconds: Tally::empty(),
+    };
+    ImageRead { refusal, image }
+}
+
+fn checked_image(image: Image) -> ImageRead
+    ensures { λ r. ⌜ imageReading r ≡ checked (imageFormat today) (some image) ⌝ }
+{
+    if contents::images::well_formed(image) {
+        return ImageRead {
+            refusal: Refusal::None,
+            image,
+        };
+    }
+    refused(Refusal::Image)
+}
+
+// Refuses a wrong length with 1, and malformed contents with 3.
+pub fn read_image(s: &[u8]) -> ImageRead
+    ensures { λ r. ⌜ imageReading r ≡ readImage today (now (s .entry)) ⌝ }
+{
+    if s.len() != limits::IMAGE_SIZE {
+        return refused(Refusal::Length);
+    }
+    if numbers::be8(s, 3) != 0 {
+        return refused(Refusal::Image);
+    }
+    match codes::engine_of(numbers::be8(s, 0)) {
+        EngineRead::Is(e) => checked_image(image_at(e, s)),
+        EngineRead::Unknown => refused(Refusal::Image),
+    }
+}
+
+fn put_image(i: Image, out: &mut [u8])
+    requires { ⌜ length (now out) ≡ imageSize today ⌝ }
+    ensures { λ _. ⌜ now (out .exit) ≡ imageBytes today i ⌝ }
+{
+    let checks = i.checks;
+    let seconds = i.seconds;
+    logs::put_log(contents::images::log_of(i), out);
+    put_tally(checks, out, AT_CHECKS);
+    put_tally(seconds, out, AT_SECONDS);
+}
+
+// Refuses as reading would, and then leaves every byte.
+pub fn write_image(i: Image, out: &mut [u8]) -> Refusal
+    ensures { λ r. ⌜ wrote (numberOf r) (now (out .exit)) ≡ writeImage today i (now (out .entry)) ⌝ }
+{
+    if out.len() != limits::IMAGE_SIZE {
+        return Refusal::Length;
+    }
+    if !contents::images::well_formed(i) {
+        return Refusal::Image;
+    }
+    put_image(i, out);
+    Refusal::None
+}

@@ -1,0 +1,40 @@
+// Logs, images and messages as bytes: lengths and contents are refused first.
+pub mod codes;
+pub mod images;
+pub mod logs;
+pub mod messages;
+mod numbers;
+use contents::Image;
+use contents::Kind;
+use contents::Log;
+use contents::Message;
+use tally::Engine;
+use tally::Refusal;
+
+// What a letter stands for.
+pub enum EngineRead {
+    Is(Engine),
+    Unknown,
+}
+
+pub enum KindRead {
+    Is(Kind),
+    Unknown,
+}
+
+// What reading finds.
+pub enum LogRead {
+    Read(Log),
+    Refused(Refusal),
+}
+
+pub enum MessageRead {
+    Read(Message),
+    Refused(Refusal),
+}
+
+// An image holds arrays, so what was read stands beside the refusal.
+pub struct ImageRead {
+    pub refusal: Refusal,
+    pub image: Image,
+}

@@ -1,0 +1,120 @@
+// The 20 bytes of a log.
+use super::EngineRead;
+use super::LogRead;
+use super::codes;
+use super::numbers;
+use contents::Log;
+use contents::Settings;
+use contents::State;
+use tally::Engine;
+use tally::Estimate;
+use tally::Refusal;
+use tally::limits;
+ghost use mathlib.Core.Path.{_≡_};
+ghost use mathlib.Core.List.{[], _∷_};
+ghost use mathlib.Core.Option.{Option, some};
+ghost use Prim.Native.Nat.{_+_, _≤_};
+ghost use lib.ListN.{length};
+ghost use Rattle.tally.specs.Limits.{today, logSize};
+ghost use Rattle.tally.specs.Refusal.{numberOf};
+ghost use Rattle.codec.specs.Numbers.{unpack, packInto};
+ghost use Rattle.codec.specs.Codes.{codeOf};
+ghost use Rattle.codec.specs.Formats.{without, withZero, wrote, checked};
+ghost use Rattle.codec.specs.Logs.{logWidths, zeroPlace, logOf, logNumbers, logFormat, logReading, readLog, writeLog};
+
+// Where the fields stand.
+const AT_ENTRY: usize = 4;
+
+const AT_ROUND: usize = AT_ENTRY + 2;
+
+const AT_PROPOSAL: usize = AT_ROUND + limits::ROUND_WIDTH;
+
+const AT_FIRST: usize = AT_PROPOSAL + 4;
+
+const AT_SECOND: usize = AT_FIRST + 4;
+
+// The contents that the bytes hold, at an engine.
+pub(crate) fn log_at(engine: Engine, s: &[u8]) -> Log
+    requires { ⌜ logSize today ≤ length (now s) ⌝ }
+    ensures { λ r. ⌜ r ≡ logOf engine (without zeroPlace (unpack 0 (logWidths today) (now (s .entry)))) ⌝ }
+{
+    Log {
+        settings: Settings {
+            engine,
+            n: numbers::be8(s, 1),
+            unit: numbers::be8(s, 2),
+            entry: numbers::be16(s, AT_ENTRY),
+        },
+        state: State {
+            round: numbers::round_at(s, AT_ROUND),
+            proposal: codes::estimate_of(numbers::be32(s, AT_PROPOSAL)),
+            first: codes::estimate_of(numbers::be32(s, AT_FIRST)),
+            second: codes::estimate_of(numbers::be32(s, AT_SECOND)),
+        },
+    }
+}
+
+fn checked_log(log: Log) -> LogRead
+    ensures { λ r. ⌜ logReading r ≡ checked (logFormat today) (some log) ⌝ }
+{
+    if contents::logs::well_formed(log) {
+        LogRead::Read(log)
+    } else {
+        LogRead::Refused(Refusal::Log)
+    }
+}
+
+// Refuses a wrong length with 1, and malformed contents with 2.
+pub fn read_log(s: &[u8]) -> LogRead
+    ensures { λ r. ⌜ logReading r ≡ readLog today (now (s .entry)) ⌝ }
+{
+    if s.len() != limits::LOG_SIZE {
+        return LogRead::Refused(Refusal::Length);
+    }
+    if numbers::be8(s, 3) != 0 {
+        return LogRead::Refused(Refusal::Log);
+    }
+    match codes::engine_of(numbers::be8(s, 0)) {
+        EngineRead::Is(e) => checked_log(log_at(e, s)),
+        EngineRead::Unknown => LogRead::Refused(Refusal::Log),
+    }
+}
+
+// Three estimates, one after the other.
+fn put_three(out: &mut [u8], at: usize, a: Estimate, b: Estimate, c: Estimate)
+    requires { ⌜ at + 12 ≤ length (now out) ⌝ }
+    ensures { λ _. ⌜ now (out .exit) ≡ packInto (now (out .entry)) at (4 ∷ 4 ∷ 4 ∷ []) (codeOf a ∷ codeOf b ∷ codeOf c ∷ []) ⌝ }
+{
+    numbers::put32(out, at, codes::code_of(a));
+    numbers::put32(out, at + 4, codes::code_of(b));
+    numbers::put32(out, at + 4 + 4, codes::code_of(c));
+}
+
+pub(crate) fn put_log(log: Log, out: &mut [u8])
+    requires { ⌜ logSize today ≤ length (now out) ⌝ }
+    ensures { λ _. ⌜ now (out .exit) ≡ packInto (now (out .entry)) 0 (logWidths today) (withZero zeroPlace (logNumbers log)) ⌝ }
+{
+    let settings = log.settings;
+    let state = log.state;
+    let engine = settings.engine;
+    let proposal = state.proposal;
+    let first = state.first;
+    let second = state.second;
+    numbers::put_four(out, 0, codes::letter_of(engine), settings.n, settings.unit, 0);
+    numbers::put_times(out, AT_ENTRY, settings.entry, state.round);
+    put_three(out, AT_PROPOSAL, proposal, first, second);
+}
+
+// Refuses as reading would, and then leaves every byte.
+pub fn write_log(log: Log, out: &mut [u8]) -> Refusal
+    ensures { λ r. ⌜ wrote (numberOf r) (now (out .exit)) ≡ writeLog today log (now (out .entry)) ⌝ }
+{
+    if out.len() != limits::LOG_SIZE {
+        return Refusal::Length;
+    }
+    if !contents::logs::well_formed(log) {
+        return Refusal::Log;
+    }
+    put_log(log, out);
+    Refusal::None
+}

@@ -1,0 +1,136 @@
+// The 18 bytes of a message.
+use super::EngineRead;
+use super::KindRead;
+use super::MessageRead;
+use super::codes;
+use super::numbers;
+use contents::Kind;
+use contents::Message;
+use tally::Engine;
+use tally::Refusal;
+use tally::limits;
+ghost use mathlib.Core.Path.{_≡_};
+ghost use mathlib.Core.Option.{Option, some};
+ghost use lib.ListN.{length};
+ghost use Rattle.tally.specs.Limits.{today, messageSize};
+ghost use Rattle.tally.specs.Refusal.{numberOf};
+ghost use Rattle.codec.specs.Numbers.{unpack, packInto};
+ghost use Rattle.codec.specs.Formats.{without, withZero, wrote, checked};
+ghost use Rattle.codec.specs.Messages.{messageWidths, zeroPlace, messageOf, messageNumbers, messageFormat, messageReading, lettersRead};
+ghost use Rattle.codec.specs.Messages.{cleared, readMessage, writeMessage, writeEmpty};
+
+// Where the fields stand.
+const AT_ENTRY: usize = 6;
+
+const AT_ROUND: usize = AT_ENTRY + 2;
+
+const AT_ESTIMATE: usize = AT_ROUND + limits::ROUND_WIDTH;
+
+const AT_PROPOSAL: usize = AT_ESTIMATE + 4;
+
+// The contents that the bytes hold, at a kind and an engine.
+fn message_at(kind: Kind, engine: Engine, s: &[u8]) -> Message
+    requires { ⌜ length (now s) ≡ messageSize today ⌝ }
+    ensures { λ r. ⌜ r ≡ messageOf kind engine (without zeroPlace (unpack 0 (messageWidths today) (now (s .entry)))) ⌝ }
+{
+    Message {
+        kind,
+        engine,
+        n: numbers::be8(s, 2),
+        sender: numbers::be8(s, 3),
+        receiver: numbers::be8(s, 4),
+        entry: numbers::be16(s, AT_ENTRY),
+        round: numbers::round_at(s, AT_ROUND),
+        estimate: codes::estimate_of(numbers::be32(s, AT_ESTIMATE)),
+        proposal: codes::estimate_of(numbers::be32(s, AT_PROPOSAL)),
+    }
+}
+
+fn checked_message(m: Message) -> MessageRead
+    ensures { λ r. ⌜ messageReading r ≡ checked (messageFormat today) (some m) ⌝ }
+{
+    if contents::messages::well_formed(m) {
+        MessageRead::Read(m)
+    } else {
+        MessageRead::Refused(Refusal::Message)
+    }
+}
+
+fn message_from(kind: KindRead, engine: EngineRead, s: &[u8]) -> MessageRead
+    requires { ⌜ length (now s) ≡ messageSize today ⌝ }
+    ensures { λ r. ⌜ messageReading r ≡ checked (messageFormat today) (lettersRead kind engine (without zeroPlace (unpack 0 (messageWidths today) (now (s .entry))))) ⌝ }
+{
+    match kind {
+        KindRead::Is(k) => match engine {
+            EngineRead::Is(e) => checked_message(message_at(k, e, s)),
+            EngineRead::Unknown => MessageRead::Refused(Refusal::Message),
+        },
+        KindRead::Unknown => MessageRead::Refused(Refusal::Message),
+    }
+}
+
+// Refuses a wrong length with 1, and malformed contents, the empty message among them, with 4.
+pub fn read_message(s: &[u8]) -> MessageRead
+    ensures { λ r. ⌜ messageReading r ≡ readMessage today (now (s .entry)) ⌝ }
+{
+    if s.len() != limits::MESSAGE_SIZE {
+        return MessageRead::Refused(Refusal::Length);
+    }
+    if numbers::be8(s, 5) != 0 {
+        return MessageRead::Refused(Refusal::Message);
+    }
+    message_from(codes::kind_of(numbers::be8(s, 0)), codes::engine_of(numbers::be8(s, 1)), s)
+}
+
+fn put_message(m: Message, out: &mut [u8])
+    requires { ⌜ length (now out) ≡ messageSize today ⌝ }
+    ensures { λ _. ⌜ now (out .exit) ≡ packInto (now (out .entry)) 0 (messageWidths today) (withZero zeroPlace (messageNumbers m)) ⌝ }
+{
+    let kind = m.kind;
+    let engine = m.engine;
+    let estimate = m.estimate;
+    let proposal = m.proposal;
+    numbers::put_four(out, 0, codes::kind_letter(kind), codes::letter_of(engine), m.n, m.sender);
+    numbers::put8(out, 4, m.receiver);
+    numbers::put8(out, 5, 0);
+    numbers::put_times(out, AT_ENTRY, m.entry, m.round);
+    numbers::put32(out, AT_ESTIMATE, codes::code_of(estimate));
+    numbers::put32(out, AT_PROPOSAL, codes::code_of(proposal));
+}
+
+// Zeros an output buffer of the right length, and leaves another.
+pub fn clear(out: &mut [u8])
+    ensures { λ _. ⌜ now (out .exit) ≡ cleared today (now (out .entry)) ⌝ }
+{
+    if out.len() == limits::MESSAGE_SIZE {
+        for i in 0..limits::MESSAGE_SIZE {
+            out[i] = 0;
+        }
+    }
+}
+
+// Refuses as reading would, and then leaves an empty message.
+pub fn write_message(m: Message, out: &mut [u8]) -> Refusal
+    ensures { λ r. ⌜ wrote (numberOf r) (now (out .exit)) ≡ writeMessage today m (now (out .entry)) ⌝ }
+{
+    clear(out);
+    if out.len() != limits::MESSAGE_SIZE {
+        return Refusal::Length;
+    }
+    if !contents::messages::well_formed(m) {
+        return Refusal::Message;
+    }
+    put_message(m, out);
+    Refusal::None
+}
+
+// The empty message.
+pub fn write_empty(out: &mut [u8]) -> Refusal
+    ensures { λ r. ⌜ wrote (numberOf r) (now (out .exit)) ≡ writeEmpty today (now (out .entry)) ⌝ }
+{
+    clear(out);
+    if out.len() != limits::MESSAGE_SIZE {
+        return Refusal::Length;
+    }
+    Refusal::None
+}
