@@ -1,18 +1,34 @@
--- The bytes of an image: a log's and two tallies', one after the other. Assumes nothing.
-use mathlib.Core.Path.{_≡_, refl, sym, ap, _∙_}
+-- An image's format is lawful, and its bytes are a log's and two tallies', one after the other. Assumes nothing.
+use mathlib.Core.Path.{_≡_, refl, sym, ap, ap₂, _∙_}
+use mathlib.Core.Bool.{Bool, true, false}
 use mathlib.Core.List.{List, [], _∷_, _++_, map}
-use Prim.Native.Nat.{ℕ, suc, _+_}
+use mathlib.Core.Option.{Option, none, some}
+use Prim.Native.Nat.{ℕ, zero, suc, _+_, _<_, _≤_, _^_}
 use native.Mathlib.Omega.{arith}
-use lib.ListN.{length, length-append, length-map}
-use Rattle.tally.specs.Limits.{today, logSize, imageSize, senders}
+use lib.ListN.{length, getD, take, drop, replicate, length-append, length-drop, length-map, take-append-drop}
+use lib.Seq.{take-at, drop-at, getD-take, length-take-le}
+use Rattle.tally.specs.Limits.{Limits, today, logSize, imageSize, senders}
+use Rattle.tally.specs.Tally.{blankCell, isMarked, placed}
+use Rattle.tally.specs.declared.Cell.{Cell}
+use Rattle.tally.specs.declared.Engine.{Engine}
 use Rattle.tally.specs.declared.Tally.{Tally}
-use Rattle.contents.specs.Images.{logOf}
+use Rattle.tally.proofs.Bounds.{Sane}
+use Rattle.contents.specs.Estimates.{isB}
+use Rattle.contents.specs.Images.{logOf as recordOf, imageOk}
 use Rattle.contents.specs.declared.Image.{Image}
+use Rattle.contents.proofs.Facts.{Known, TallyFacts, ImageFacts, image-facts, known-place}
+use Rattle.codec.specs.Codes.{engineOf}
 use Rattle.codec.specs.Formats.{withZero}
-use Rattle.codec.specs.Images.{cellCode, tallyWidths, tallySize, tallyNumbers, imageWidths, imageBytes}
-use Rattle.codec.specs.Logs.{logWidths, zeroPlace, logNumbers}
+use Rattle.codec.specs.Images.{cellOf, cellCode, tallyWidths, tallySize, tallyNumbers, tallyOf, logLength, tallyLength}
+use Rattle.codec.specs.Images.{imageWidths, imageNumbers, imageOf, withTallies, letterRead, parseImage, imageFormat, imageBytes}
+use Rattle.codec.specs.Logs.{logWidths, zeroPlace, logNumbers, logOf}
 use Rattle.codec.specs.Numbers.{packInto}
-use Rattle.codec.proofs.Rows.{packInto-append, packInto-eq}
+use Rattle.codec.specs.declared.EngineRead.{EngineRead}
+use Rattle.codec.specs.declared.EngineRead.the-variants.{Is, Unknown}
+use Rattle.codec.proofs.Letters.{apart, engine-letter, code-estimate, estimate-code, code-fits}
+use Rattle.codec.proofs.LogFormat as log
+use Rattle.codec.proofs.RoundTrips.{Lawful}
+use Rattle.codec.proofs.Rows.{Fit, fit-append, packInto-append, packInto-eq}
 
 length-tally : (t : Tally) → length (t .cells) ≡ senders → length (tallyNumbers t) ≡ length tallyWidths
 length-tally t e = ap suc (length-map (t .cells) cellCode ∙ e)
@@ -20,14 +36,111 @@ length-tally t e = ap suc (length-map (t .cells) cellCode ∙ e)
 -- a log and two tallies stored one after the other, from the front to the end, are an image's bytes
 pub image-stored : (bs : List ℕ) (i : Image) → length (i .checks .cells) ≡ senders → length (i .seconds .cells) ≡ senders → length bs ≡ imageSize today
     → packInto
-        (packInto (packInto bs 0 (logWidths today) (withZero zeroPlace (logNumbers (logOf i)))) (logSize today) tallyWidths (tallyNumbers (i .checks)))
+        (packInto (packInto bs 0 (logWidths today) (withZero zeroPlace (logNumbers (recordOf i)))) (logSize today) tallyWidths (tallyNumbers (i .checks)))
         (logSize today + tallySize) tallyWidths (tallyNumbers (i .seconds))
     ≡ imageBytes today i
 unfolding imageBytes
 image-stored bs i c s size =
-    let row = withZero zeroPlace (logNumbers (logOf i)) in
+    let row = withZero zeroPlace (logNumbers (recordOf i)) in
     let rest = tallyNumbers (i .checks) ++ tallyNumbers (i .seconds) in
     sym
     (packInto-append (logWidths today) (tallyWidths ++ tallyWidths) row rest bs 0 refl
     ∙ packInto-append tallyWidths tallyWidths (tallyNumbers (i .checks)) (tallyNumbers (i .seconds)) (packInto bs 0 (logWidths today) row) (logSize today) (length-tally (i .checks) c))
     ∙ packInto-eq (imageWidths today) (row ++ rest) bs 0 (simp (length-append, length-tally (i .checks) c, length-tally (i .seconds) s)) (sym size)
+
+-- what the types of a tally's fields say: 16-bit marks and sixteen estimates
+pub record Typed (t : Tally) : Type 0 where
+  pub marks : t .marks < 256 ^ 2
+  pub sixteen : length (t .cells) ≡ senders
+
+abbrev pub TypedImage : Image → Type 0
+TypedImage i = Typed (i .checks) × Typed (i .seconds)
+
+-- any numbers are some cells'
+codes-cells : (vs : List ℕ) → map cellCode (map cellOf vs) ≡ vs
+codes-cells [] = refl
+codes-cells (v ∷ vs) = ap₂ _∷_ (code-estimate v) (codes-cells vs)
+
+numbers-tally : (vs : List ℕ) → 0 < length vs → tallyNumbers (tallyOf vs) ≡ vs
+numbers-tally [] h = absurd (omega arith)
+numbers-tally (v ∷ vs) h = ap (_∷_ v) (codes-cells vs)
+
+numbers-image : (e : Engine) (vs : List ℕ) → length vs ≡ logLength + tallyLength + tallyLength → engineOf (getD vs 0 0) ≡ Is e → imageNumbers (imageOf e vs) ≡ vs
+numbers-image e vs len p =
+    let rest = drop logLength vs in
+    let long : length rest ≡ tallyLength + tallyLength = simp length-drop (omega arith) in
+    let front : length (take logLength vs) ≡ logLength = length-take-le logLength vs (omega arith) in
+    let checks : length (take tallyLength rest) ≡ tallyLength = length-take-le tallyLength rest (omega arith) in
+    let seconds : length (drop tallyLength rest) ≡ tallyLength = simp length-drop (omega arith) in
+    ap₂ _++_ (log.numbers-of e (take logLength vs) front (ap engineOf (getD-take logLength vs 0 0 (omega arith)) ∙ p))
+    (ap₂ _++_ (numbers-tally (take tallyLength rest) (omega arith)) (numbers-tally (drop tallyLength rest) (omega arith)) ∙ take-append-drop tallyLength rest)
+    ∙ take-append-drop logLength vs
+
+module _ (l : Limits) (sane : Sane l) where
+  AllKnown : List Cell → Type 0
+  AllKnown cs = (s : ℕ) → s < length cs → Known l (getD cs s blankCell .estimate)
+
+  later : (c : Cell) (cs : List Cell) → AllKnown (c ∷ cs) → AllKnown cs
+  unfolding AllKnown
+  later c cs k s h = k (suc s) (omega arith)
+
+  cells-codes : (cs : List Cell) → AllKnown cs → map cellOf (map cellCode cs) ≡ cs
+  unfolding AllKnown
+  cells-codes [] k = refl
+  cells-codes (c ∷ cs) k = rw (estimate-code l sane (c .estimate) (k 0 (omega arith)), cells-codes cs (later c cs k))
+
+  cells-fit : (cs : List Cell) → AllKnown cs → Fit (replicate (length cs) 4) (map cellCode cs)
+  unfolding AllKnown
+  cells-fit [] k = tt
+  cells-fit (c ∷ cs) k = (code-fits l sane (c .estimate) (k 0 (omega arith)), cells-fit cs (later c cs k))
+
+  module _ (split : Bool) (g : Engine) (n : ℕ) (t : Tally) (f : TallyFacts l split g n t) (typed : Typed t) where
+    known : AllKnown (t .cells)
+    unfolding AllKnown
+    known s h = let b : s < senders = omega (arith, typed .sixteen) in known-place l split n s (isMarked (t .marks) s) (placed t s) (f .places s b)
+
+    tally-back : tallyOf (tallyNumbers t) ≡ t
+    tally-back = rw (cells-codes (t .cells) known)
+
+    tally-fit : Fit tallyWidths (tallyNumbers t)
+    tally-fit = (typed .marks, rw (typed .sixteen) at (cells-fit (t .cells) known))
+
+  parsed : (i : Image) → TypedImage i → imageOk l i ≡ true → parseImage (imageNumbers i) ≡ some i
+  parsed i t ok =
+      let f = image-facts l i ok in
+      let g = i .settings .engine in
+      let c = tallyNumbers (i .checks) in
+      let s = tallyNumbers (i .seconds) in
+      let len : length c ≡ tallyLength = length-tally (i .checks) (t .0 .sixteen) in
+      rw (engine-letter g)
+      (ap (λ r. some (withTallies r (tallyOf (take tallyLength (c ++ s))) (tallyOf (drop tallyLength (c ++ s))))) (log.of-numbers l sane (recordOf i) (f .log))
+      ∙ ap₂ (λ x y. some (withTallies (recordOf i) x y))
+          (ap tallyOf (take-at c s tallyLength len) ∙ tally-back false g (i .settings .n) (i .checks) (f .checks) (t .0))
+          (ap tallyOf (drop-at c s tallyLength len) ∙ tally-back (isB g) g (i .settings .n) (i .seconds) (f .seconds) (t .1)))
+
+  fits : (i : Image) → TypedImage i → imageOk l i ≡ true → Fit (imageWidths l) (withZero zeroPlace (imageNumbers i))
+  fits i t ok =
+      let f = image-facts l i ok in
+      let g = i .settings .engine in
+      fit-append (logWidths l) (tallyWidths ++ tallyWidths) (withZero zeroPlace (logNumbers (recordOf i))) (tallyNumbers (i .checks) ++ tallyNumbers (i .seconds))
+      (log.fits l sane (recordOf i) (f .log))
+      (fit-append tallyWidths tallyWidths (tallyNumbers (i .checks)) (tallyNumbers (i .seconds))
+      (tally-fit false g (i .settings .n) (i .checks) (f .checks) (t .0))
+      (tally-fit (isB g) g (i .settings .n) (i .seconds) (f .seconds) (t .1)))
+
+  pub lawful : Lawful (imageFormat l) TypedImage
+  lawful =
+      record {
+        sized = omega arith;
+        placed = omega arith;
+        refuses = λ e. omega arith;
+        each = λ i t. simp (length-append, length-tally (i .checks) (t .0 .sixteen), length-tally (i .seconds) (t .1 .sixteen));
+        fit = fits;
+        parsed = parsed;
+        back = λ vs i len e. back vs i len (engineOf (getD vs 0 0)) refl e;
+      }
+    where
+      back : (vs : List ℕ) (i : Image) → suc (length vs) ≡ length (imageWidths l) → (o : EngineRead) → engineOf (getD vs 0 0) ≡ o
+          → letterRead o vs ≡ some i → imageNumbers i ≡ vs
+      back vs i len (Is e) p h = let same : imageOf e vs ≡ i = cc in rw (← same) (numbers-image e vs (omega arith) p)
+      back vs i len Unknown p h = apart cc

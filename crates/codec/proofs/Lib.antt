@@ -1,3 +1,7 @@
 pub mod Rows
-pub mod Cleared
+pub mod RoundTrips
+pub mod Letters
+pub mod LogFormat
+pub mod MessageFormat
 pub mod ImageFormat
+pub mod Cleared

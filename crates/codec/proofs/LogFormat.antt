@@ -1,0 +1,68 @@
+-- A log's format is lawful. Assumes nothing.
+use Prim.Native.Nat.{ℕ, suc, _<_, _^_}
+use mathlib.Core.Path.{_≡_, refl, sym, ap, _∙_}
+use mathlib.Core.Bool.{Bool, true, false}
+use mathlib.Core.List.{List, [], _∷_}
+use mathlib.Core.Option.{Option, none, some}
+use native.Mathlib.Omega.{arith}
+use lib.ListN.{length, getD}
+use Rattle.tally.specs.Limits.{Limits}
+use Rattle.tally.specs.declared.Engine.{Engine}
+use Rattle.tally.proofs.Bounds.{Sane, entry-fits, units-fit, everyone-fits}
+use Rattle.contents.specs.Logs.{logOk}
+use Rattle.contents.specs.declared.Log.{Log}
+use Rattle.contents.proofs.Facts.{LogFacts, log-facts, known-or-blank, known-second}
+use Rattle.codec.specs.Codes.{letterOf, engineOf, codeOf, estimateOf}
+use Rattle.codec.specs.Formats.{Format, withZero}
+use Rattle.codec.specs.Logs.{logWidths, zeroPlace, logNumbers, logOf, letterRead, parseLog, logFormat}
+use Rattle.codec.specs.declared.EngineRead.{EngineRead}
+use Rattle.codec.specs.declared.EngineRead.the-variants.{Is, Unknown}
+use Rattle.codec.proofs.Letters.{apart, engine-letter, letter-fits, letter-engine, code-estimate, estimate-code, code-fits, listed}
+use Rattle.codec.proofs.RoundTrips.{Lawful}
+use Rattle.codec.proofs.Rows.{Fit}
+
+-- the numbers of a log that was made of eight numbers
+pub numbers-of : (e : Engine) (vs : List ℕ) → length vs ≡ 8 → engineOf (getD vs 0 0) ≡ Is e → logNumbers (logOf e vs) ≡ vs
+numbers-of e vs len p =
+    rw (letter-engine (getD vs 0 0) e p, code-estimate (getD vs 5 0), code-estimate (getD vs 6 0), code-estimate (getD vs 7 0)) (listed 8 vs len)
+
+module _ (l : Limits) (sane : Sane l) where
+  -- a well-formed log is made of its numbers
+  pub of-numbers : (r : Log) → logOk l r ≡ true → logOf (r .settings .engine) (logNumbers r) ≡ r
+  of-numbers r ok =
+      let s = log-facts l r ok .state in
+      rw (
+        estimate-code l sane (r .state .proposal) (known-or-blank l (r .state .proposal) (s .proposal)),
+        estimate-code l sane (r .state .first) (known-or-blank l (r .state .first) (s .first)),
+        estimate-code l sane (r .state .second) (known-second l (r .settings .engine) (r .state .second) (s .second)),
+      )
+
+  pub fits : (r : Log) → logOk l r ≡ true → Fit (logWidths l) (withZero zeroPlace (logNumbers r))
+  fits r ok =
+      let f = log-facts l r ok in
+      let s = f .state in
+      let n = f .numbers in
+      let unit : r .settings .unit < 256 ^ 1 = omega (arith, n .below, n .n-high, units-fit, everyone-fits) in
+      let units : r .settings .n < 256 ^ 1 = omega (arith, n .n-high, units-fit, everyone-fits) in
+      let entry : r .settings .entry < 256 ^ 2 = omega (arith, n .entry-high, entry-fits) in
+      let round : r .state .round < 256 ^ l .roundWidth = omega (arith, s .round, sane .round-fits) in
+      (letter-fits (r .settings .engine), (units, (unit, (omega arith, (entry, (round,
+        (code-fits l sane (r .state .proposal) (known-or-blank l (r .state .proposal) (s .proposal)),
+        (code-fits l sane (r .state .first) (known-or-blank l (r .state .first) (s .first)),
+        (code-fits l sane (r .state .second) (known-second l (r .settings .engine) (r .state .second) (s .second)), tt)))))))))
+
+  pub lawful : Lawful (logFormat l) (λ r. Unit)
+  lawful =
+      record {
+        sized = omega arith;
+        placed = omega arith;
+        refuses = λ e. omega arith;
+        each = λ r t. refl;
+        fit = λ r t ok. fits r ok;
+        parsed = λ r t ok. rw (engine-letter (r .settings .engine), of-numbers r ok);
+        back = λ vs r len e. back vs r len (engineOf (getD vs 0 0)) refl e;
+      }
+    where
+      back : (vs : List ℕ) (r : Log) → suc (length vs) ≡ 9 → (o : EngineRead) → engineOf (getD vs 0 0) ≡ o → letterRead o vs ≡ some r → logNumbers r ≡ vs
+      back vs r len (Is e) p h = let same : logOf e vs ≡ r = cc in rw (← same) (numbers-of e vs (omega arith) p)
+      back vs r len Unknown p h = apart cc

@@ -1,0 +1,77 @@
+-- A message's format is lawful. Assumes nothing.
+use Prim.Native.Nat.{ℕ, suc, _<_, _^_}
+use mathlib.Core.Path.{_≡_, refl, sym, ap, _∙_}
+use mathlib.Core.Bool.{Bool, true, false}
+use mathlib.Core.List.{List, [], _∷_}
+use mathlib.Core.Option.{Option, none, some}
+use native.Mathlib.Omega.{arith}
+use lib.ListN.{length, getD}
+use Rattle.tally.specs.Limits.{Limits}
+use Rattle.tally.proofs.Bounds.{Sane, entry-fits, units-fit, everyone-fits}
+use Rattle.contents.specs.Messages.{kindOk, messageOk}
+use Rattle.contents.specs.declared.Kind.{Kind}
+use Rattle.contents.specs.declared.Kind.the-variants.{Empty}
+use Rattle.contents.specs.declared.Message.{Message}
+use Rattle.contents.proofs.Facts.{MessageFacts, message-facts}
+use Rattle.contents.proofs.Tests.{never}
+use Rattle.codec.specs.Codes.{letterOf, engineOf, kindLetter, kindOf, codeOf, estimateOf}
+use Rattle.codec.specs.Formats.{Format, withZero}
+use Rattle.codec.specs.Messages.{messageWidths, zeroPlace, messageNumbers, messageOf, lettersRead, parseMessage, messageFormat}
+use Rattle.codec.specs.declared.EngineRead.{EngineRead}
+use Rattle.codec.specs.declared.EngineRead.the-variants.{Is, Unknown}
+use Rattle.codec.specs.declared.KindRead.{KindRead}
+use Rattle.codec.specs.declared.KindRead.the-variants.{Is as KindIs, Unknown as KindUnknown}
+use Rattle.codec.proofs.Letters.{apart, engine-letter, letter-fits, letter-engine, kind-letter, kind-fits, letter-kind, code-estimate, estimate-code, code-fits, listed}
+use Rattle.codec.proofs.RoundTrips.{Lawful}
+use Rattle.codec.proofs.Rows.{Fit}
+
+-- no well-formed message is empty
+not-empty : (l : Limits) (k : Kind) (m : Message) → kindOk l k m ≡ true → k ≡ Empty → ⊥
+unfolding kindOk
+not-empty l k m h e = never (rw e at h)
+
+module _ (l : Limits) (sane : Sane l) where
+  fits : (m : Message) → messageOk l m ≡ true → Fit (messageWidths l) (withZero zeroPlace (messageNumbers m))
+  fits m ok =
+      let f = message-facts l m ok in
+      let n = f .numbers in
+      let k = f .fields in
+      let units : m .n < 256 ^ 1 = omega (arith, n .n-high, units-fit, everyone-fits) in
+      let sender : m .sender < 256 ^ 1 = omega (arith, n .below, n .n-high, units-fit, everyone-fits) in
+      let receiver : m .receiver < 256 ^ 1 = omega (arith, k .receiver, everyone-fits) in
+      let entry : m .entry < 256 ^ 2 = omega (arith, n .entry-high, entry-fits) in
+      let round : m .round < 256 ^ l .roundWidth = omega (arith, f .round, sane .round-fits) in
+      (kind-fits (m .kind), (letter-fits (m .engine), (units, (sender, (receiver, (omega arith, (entry, (round,
+        (code-fits l sane (m .estimate) (k .estimate), (code-fits l sane (m .proposal) (k .proposal), tt))))))))))
+
+  pub lawful : Lawful (messageFormat l) (λ m. Unit)
+  lawful =
+      record {
+        sized = omega arith;
+        placed = omega arith;
+        refuses = λ e. omega arith;
+        each = λ m t. refl;
+        fit = λ m t ok. fits m ok;
+        parsed = λ m t ok. parsed m ok;
+        back = λ vs m len e. back vs m len (kindOf (getD vs 0 0)) (engineOf (getD vs 1 0)) refl refl e;
+      }
+    where
+      parsed : (m : Message) → messageOk l m ≡ true → parseMessage (messageNumbers m) ≡ some m
+      parsed m ok =
+          let f = message-facts l m ok in
+          rw (
+            kind-letter (m .kind) (not-empty l (m .kind) m (f .kind)),
+            engine-letter (m .engine),
+            estimate-code l sane (m .estimate) (f .fields .estimate),
+            estimate-code l sane (m .proposal) (f .fields .proposal),
+          )
+
+      back : (vs : List ℕ) (m : Message) → suc (length vs) ≡ 10 → (a : KindRead) (o : EngineRead)
+          → kindOf (getD vs 0 0) ≡ a → engineOf (getD vs 1 0) ≡ o → lettersRead a o vs ≡ some m → messageNumbers m ≡ vs
+      back vs m len (KindIs k) (Is e) p q h =
+          let same : messageOf k e vs ≡ m = cc in
+          rw (← same)
+          (rw (letter-kind (getD vs 0 0) k p, letter-engine (getD vs 1 0) e q, code-estimate (getD vs 7 0), code-estimate (getD vs 8 0))
+          (listed 9 vs (omega arith)))
+      back vs m len (KindIs k) Unknown p q h = apart cc
+      back vs m len KindUnknown o p q h = apart cc
