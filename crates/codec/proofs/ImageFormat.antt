@@ -7,7 +7,7 @@ use Prim.Native.Nat.{ℕ, zero, suc, _+_, _<_, _≤_, _^_}
 use native.Mathlib.Omega.{arith}
 use lib.ListN.{length, getD, take, drop, replicate, length-append, length-drop, length-map, take-append-drop}
 use lib.Seq.{take-at, drop-at, getD-take, length-take-le}
-use Rattle.tally.specs.Limits.{Limits, today, logSize, imageSize, senders}
+use Rattle.tally.specs.Limits.{Limits, today, logSize, imageSize, logFields, senders}
 use Rattle.tally.specs.Tally.{blankCell, isMarked, placed}
 use Rattle.tally.specs.declared.Cell.{Cell}
 use Rattle.tally.specs.declared.Engine.{Engine}
@@ -19,7 +19,7 @@ use Rattle.contents.specs.declared.Image.{Image}
 use Rattle.contents.proofs.Facts.{Known, TallyFacts, ImageFacts, image-facts, known-place}
 use Rattle.codec.specs.Codes.{engineOf}
 use Rattle.codec.specs.Formats.{withZero}
-use Rattle.codec.specs.Images.{cellOf, cellCode, tallyWidths, tallySize, tallyNumbers, tallyOf, logLength, tallyLength}
+use Rattle.codec.specs.Images.{cellOf, cellCode, tallyWidths, tallySize, tallyNumbers, tallyOf, tallyFields}
 use Rattle.codec.specs.Images.{imageWidths, imageNumbers, imageOf, withTallies, letterRead, parseImage, imageFormat, imageBytes}
 use Rattle.codec.specs.Logs.{logWidths, zeroPlace, logNumbers, logOf}
 use Rattle.codec.specs.Numbers.{packInto}
@@ -65,16 +65,16 @@ numbers-tally : (vs : List ℕ) → 0 < length vs → tallyNumbers (tallyOf vs) 
 numbers-tally [] h = absurd (omega arith)
 numbers-tally (v ∷ vs) h = ap (_∷_ v) (codes-cells vs)
 
-numbers-image : (e : Engine) (vs : List ℕ) → length vs ≡ logLength + tallyLength + tallyLength → engineOf (getD vs 0 0) ≡ Is e → imageNumbers (imageOf e vs) ≡ vs
+numbers-image : (e : Engine) (vs : List ℕ) → length vs ≡ logFields + tallyFields + tallyFields → engineOf (getD vs 0 0) ≡ Is e → imageNumbers (imageOf e vs) ≡ vs
 numbers-image e vs len p =
-    let rest = drop logLength vs in
-    let long : length rest ≡ tallyLength + tallyLength = simp length-drop (omega arith) in
-    let front : length (take logLength vs) ≡ logLength = length-take-le logLength vs (omega arith) in
-    let checks : length (take tallyLength rest) ≡ tallyLength = length-take-le tallyLength rest (omega arith) in
-    let seconds : length (drop tallyLength rest) ≡ tallyLength = simp length-drop (omega arith) in
-    ap₂ _++_ (log.numbers-of e (take logLength vs) front (ap engineOf (getD-take logLength vs 0 0 (omega arith)) ∙ p))
-    (ap₂ _++_ (numbers-tally (take tallyLength rest) (omega arith)) (numbers-tally (drop tallyLength rest) (omega arith)) ∙ take-append-drop tallyLength rest)
-    ∙ take-append-drop logLength vs
+    let rest = drop logFields vs in
+    let long : length rest ≡ tallyFields + tallyFields = simp length-drop (omega arith) in
+    let front : length (take logFields vs) ≡ logFields = length-take-le logFields vs (omega arith) in
+    let checks : length (take tallyFields rest) ≡ tallyFields = length-take-le tallyFields rest (omega arith) in
+    let seconds : length (drop tallyFields rest) ≡ tallyFields = simp length-drop (omega arith) in
+    ap₂ _++_ (log.numbers-of e (take logFields vs) front (ap engineOf (getD-take logFields vs 0 0 (omega arith)) ∙ p))
+    (ap₂ _++_ (numbers-tally (take tallyFields rest) (omega arith)) (numbers-tally (drop tallyFields rest) (omega arith)) ∙ take-append-drop tallyFields rest)
+    ∙ take-append-drop logFields vs
 
 module _ (l : Limits) (sane : Sane l) where
   AllKnown : List Cell → Type 0
@@ -111,12 +111,12 @@ module _ (l : Limits) (sane : Sane l) where
       let g = i .settings .engine in
       let c = tallyNumbers (i .checks) in
       let s = tallyNumbers (i .seconds) in
-      let len : length c ≡ tallyLength = length-tally (i .checks) (t .0 .sixteen) in
+      let len : length c ≡ tallyFields = length-tally (i .checks) (t .0 .sixteen) in
       rw (engine-letter g)
-      (ap (λ r. some (withTallies r (tallyOf (take tallyLength (c ++ s))) (tallyOf (drop tallyLength (c ++ s))))) (log.of-numbers l sane (recordOf i) (f .log))
+      (ap (λ r. some (withTallies r (tallyOf (take tallyFields (c ++ s))) (tallyOf (drop tallyFields (c ++ s))))) (log.of-numbers l sane (recordOf i) (f .log))
       ∙ ap₂ (λ x y. some (withTallies (recordOf i) x y))
-          (ap tallyOf (take-at c s tallyLength len) ∙ tally-back false g (i .settings .n) (i .checks) (f .checks) (t .0))
-          (ap tallyOf (drop-at c s tallyLength len) ∙ tally-back (isB g) g (i .settings .n) (i .seconds) (f .seconds) (t .1)))
+          (ap tallyOf (take-at c s tallyFields len) ∙ tally-back false g (i .settings .n) (i .checks) (f .checks) (t .0))
+          (ap tallyOf (drop-at c s tallyFields len) ∙ tally-back (isB g) g (i .settings .n) (i .seconds) (f .seconds) (t .1)))
 
   fits : (i : Image) → TypedImage i → imageOk l i ≡ true → Fit (imageWidths l) (withZero zeroPlace (imageNumbers i))
   fits i t ok =
@@ -132,6 +132,7 @@ module _ (l : Limits) (sane : Sane l) where
   lawful =
       record {
         sized = omega arith;
+        counted = refl;
         placed = omega arith;
         refuses = λ e. omega arith;
         each = λ i t. simp (length-append, length-tally (i .checks) (t .0 .sixteen), length-tally (i .seconds) (t .1 .sixteen));
@@ -140,7 +141,7 @@ module _ (l : Limits) (sane : Sane l) where
         back = λ vs i len e. back vs i len (engineOf (getD vs 0 0)) refl e;
       }
     where
-      back : (vs : List ℕ) (i : Image) → suc (length vs) ≡ length (imageWidths l) → (o : EngineRead) → engineOf (getD vs 0 0) ≡ o
+      back : (vs : List ℕ) (i : Image) → length vs ≡ logFields + tallyFields + tallyFields → (o : EngineRead) → engineOf (getD vs 0 0) ≡ o
           → letterRead o vs ≡ some i → imageNumbers i ≡ vs
-      back vs i len (Is e) p h = let same : imageOf e vs ≡ i = cc in rw (← same) (numbers-image e vs (omega arith) p)
+      back vs i len (Is e) p h = let same : imageOf e vs ≡ i = cc in rw (← same) (numbers-image e vs len p)
       back vs i len Unknown p h = apart cc

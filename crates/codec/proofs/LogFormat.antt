@@ -6,7 +6,7 @@ use mathlib.Core.List.{List, [], _∷_}
 use mathlib.Core.Option.{Option, none, some}
 use native.Mathlib.Omega.{arith}
 use lib.ListN.{length, getD}
-use Rattle.tally.specs.Limits.{Limits}
+use Rattle.tally.specs.Limits.{Limits, logFields}
 use Rattle.tally.specs.declared.Engine.{Engine}
 use Rattle.tally.proofs.Bounds.{Sane, entry-fits, units-fit, everyone-fits}
 use Rattle.contents.specs.Logs.{logOk}
@@ -22,9 +22,9 @@ use Rattle.codec.proofs.RoundTrips.{Lawful}
 use Rattle.codec.proofs.Rows.{Fit}
 
 -- the numbers of a log that was made of eight numbers
-pub numbers-of : (e : Engine) (vs : List ℕ) → length vs ≡ 8 → engineOf (getD vs 0 0) ≡ Is e → logNumbers (logOf e vs) ≡ vs
+pub numbers-of : (e : Engine) (vs : List ℕ) → length vs ≡ logFields → engineOf (getD vs 0 0) ≡ Is e → logNumbers (logOf e vs) ≡ vs
 numbers-of e vs len p =
-    rw (letter-engine (getD vs 0 0) e p, code-estimate (getD vs 5 0), code-estimate (getD vs 6 0), code-estimate (getD vs 7 0)) (listed 8 vs len)
+    rw (letter-engine (getD vs 0 0) e p, code-estimate (getD vs 5 0), code-estimate (getD vs 6 0), code-estimate (getD vs 7 0)) (listed logFields vs len)
 
 module _ (l : Limits) (sane : Sane l) where
   -- a well-formed log is made of its numbers
@@ -55,6 +55,7 @@ module _ (l : Limits) (sane : Sane l) where
   lawful =
       record {
         sized = omega arith;
+        counted = refl;
         placed = omega arith;
         refuses = λ e. omega arith;
         each = λ r t. refl;
@@ -63,6 +64,6 @@ module _ (l : Limits) (sane : Sane l) where
         back = λ vs r len e. back vs r len (engineOf (getD vs 0 0)) refl e;
       }
     where
-      back : (vs : List ℕ) (r : Log) → suc (length vs) ≡ 9 → (o : EngineRead) → engineOf (getD vs 0 0) ≡ o → letterRead o vs ≡ some r → logNumbers r ≡ vs
-      back vs r len (Is e) p h = let same : logOf e vs ≡ r = cc in rw (← same) (numbers-of e vs (omega arith) p)
+      back : (vs : List ℕ) (r : Log) → length vs ≡ logFields → (o : EngineRead) → engineOf (getD vs 0 0) ≡ o → letterRead o vs ≡ some r → logNumbers r ≡ vs
+      back vs r len (Is e) p h = let same : logOf e vs ≡ r = cc in rw (← same) (numbers-of e vs len p)
       back vs r len Unknown p h = apart cc

@@ -6,7 +6,7 @@ use mathlib.Core.List.{List, [], _∷_}
 use mathlib.Core.Option.{Option, none, some}
 use native.Mathlib.Omega.{arith}
 use lib.ListN.{length, getD}
-use Rattle.tally.specs.Limits.{Limits}
+use Rattle.tally.specs.Limits.{Limits, messageFields}
 use Rattle.tally.proofs.Bounds.{Sane, entry-fits, units-fit, everyone-fits}
 use Rattle.contents.specs.Messages.{kindOk, messageOk}
 use Rattle.contents.specs.declared.Kind.{Kind}
@@ -48,6 +48,7 @@ module _ (l : Limits) (sane : Sane l) where
   lawful =
       record {
         sized = omega arith;
+        counted = refl;
         placed = omega arith;
         refuses = λ e. omega arith;
         each = λ m t. refl;
@@ -66,12 +67,12 @@ module _ (l : Limits) (sane : Sane l) where
             estimate-code l sane (m .proposal) (f .fields .proposal),
           )
 
-      back : (vs : List ℕ) (m : Message) → suc (length vs) ≡ 10 → (a : KindRead) (o : EngineRead)
+      back : (vs : List ℕ) (m : Message) → length vs ≡ messageFields → (a : KindRead) (o : EngineRead)
           → kindOf (getD vs 0 0) ≡ a → engineOf (getD vs 1 0) ≡ o → lettersRead a o vs ≡ some m → messageNumbers m ≡ vs
       back vs m len (KindIs k) (Is e) p q h =
           let same : messageOf k e vs ≡ m = cc in
           rw (← same)
           (rw (letter-kind (getD vs 0 0) k p, letter-engine (getD vs 1 0) e q, code-estimate (getD vs 7 0), code-estimate (getD vs 8 0))
-          (listed 9 vs (omega arith)))
+          (listed messageFields vs len))
       back vs m len (KindIs k) Unknown p q h = apart cc
       back vs m len KindUnknown o p q h = apart cc

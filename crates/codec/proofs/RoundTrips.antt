@@ -43,13 +43,13 @@ module _ (k : ℕ) (vs : List ℕ) where
 -- what a format's fields have to do with each other; `Typed` is what the code's types say of contents
 pub record Lawful {A : Type 0} (f : Format A) (Typed : A → Type 0) : Type 0 where
   pub sized : f .size ≡ total (f .widths)
+  pub counted : suc (f .fields) ≡ length (f .widths)
   pub placed : f .zeroAt < length (f .widths)
   pub refuses : (f .malformed ≡ 0) → ⊥
-  -- one number for each width but the zero's
-  pub each : (a : A) → Typed a → suc (length (f .numbers a)) ≡ length (f .widths)
+  pub each : (a : A) → Typed a → length (f .numbers a) ≡ f .fields
   pub fit : (a : A) → Typed a → f .ok a ≡ true → Fit (f .widths) (withZero (f .zeroAt) (f .numbers a))
   pub parsed : (a : A) → Typed a → f .ok a ≡ true → f .parse (f .numbers a) ≡ some a
-  pub back : (vs : List ℕ) (a : A) → suc (length vs) ≡ length (f .widths) → f .parse vs ≡ some a → f .numbers a ≡ vs
+  pub back : (vs : List ℕ) (a : A) → length vs ≡ f .fields → f .parse vs ≡ some a → f .numbers a ≡ vs
 
 module _ {A : Type 0} (f : Format A) (Typed : A → Type 0) (law : Lawful f Typed) where
   -- ---- numbers
@@ -59,7 +59,7 @@ module _ {A : Type 0} (f : Format A) (Typed : A → Type 0) (law : Lawful f Type
   from-numbers a t ok = rw (law .parsed a t ok, ok)
 
   -- what is read from numbers is well formed and has these numbers
-  pub numbers-back : (vs : List ℕ) (a : A) → suc (length vs) ≡ length (f .widths) → fromNumbers f vs ≡ reading 0 a → (f .ok a ≡ true) × (f .numbers a ≡ vs)
+  pub numbers-back : (vs : List ℕ) (a : A) → length vs ≡ f .fields → fromNumbers f vs ≡ reading 0 a → (f .ok a ≡ true) × (f .numbers a ≡ vs)
   numbers-back vs a len e = go (f .parse vs) refl e
     where
       go : (o : Option A) → f .parse vs ≡ o → checked f o ≡ reading 0 a → (f .ok a ≡ true) × (f .numbers a ≡ vs)
@@ -78,7 +78,7 @@ module _ {A : Type 0} (f : Format A) (Typed : A → Type 0) (law : Lawful f Type
       let k = f .zeroAt in
       let vs = f .numbers a in
       let fit = law .fit a t ok in
-      let below : k ≤ length vs = omega (arith, law .placed, law .each a t) in
+      let below : k ≤ length vs = omega (arith, law .counted, law .placed, law .each a t) in
       let row : unpack 0 (f .widths) (toBytes f a) ≡ withZero k vs = unpack-pack (f .widths) (withZero k vs) [] 0 refl fit in
       rw (
         eq-eqb (length (toBytes f a)) (f .size) (length-pack (f .widths) (withZero k vs) fit ∙ sym (law .sized)),
@@ -107,7 +107,7 @@ module _ {A : Type 0} (f : Format A) (Typed : A → Type 0) (law : Lawful f Type
           by false z e = absurd (law .refuses (ap (λ (r : Reading A). r .number) e))
           by true z e =
               let below : f .zeroAt < length vs = omega (arith, law .placed, length-unpack 0 (f .widths) bs) in
-              let len : suc (length (without (f .zeroAt) vs)) ≡ length (f .widths) = length-without (f .zeroAt) vs below ∙ length-unpack 0 (f .widths) bs in
+              let len : length (without (f .zeroAt) vs) ≡ f .fields = omega (arith, law .counted, length-without (f .zeroAt) vs below, length-unpack 0 (f .widths) bs) in
               let g = numbers-back (without (f .zeroAt) vs) a len e in
               (g .0, rw (g .1, zero-back (f .zeroAt) vs below (eqb-true _ _ z)) (pack-unpack (f .widths) bs 0 b size))
 

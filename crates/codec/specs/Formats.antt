@@ -30,7 +30,8 @@ pub record Format (A : Type 0) : Type 0 where
   pub widths : List ℕ
   -- the place of the zero byte among the numbers
   pub zeroAt : ℕ
-  -- the numbers of contents and back, the zero byte left out; no contents where a letter is unknown
+  -- how many numbers contents are, the zero byte left out; these numbers, and contents of them: none where a letter is unknown
+  pub fields : ℕ
   pub numbers : A → List ℕ
   pub parse : List ℕ → Option A
   -- which contents are well formed, and the refusal's number of all others

@@ -3,7 +3,7 @@ use Prim.Native.Nat.{ℕ, _+_}
 use mathlib.Core.List.{List, [], _∷_, _++_, map}
 use mathlib.Core.Option.{Option, none, some}
 use lib.ListN.{length, getD, take, drop, replicate}
-use Rattle.tally.specs.Limits.{Limits, imageSize, senders}
+use Rattle.tally.specs.Limits.{Limits, imageSize, logFields, senders}
 use Rattle.tally.specs.Refusal.{numberOf}
 use Rattle.tally.specs.Tally.{noMarks}
 use Rattle.tally.specs.declared.Cell.{Cell}
@@ -47,19 +47,16 @@ imageWidths l = logWidths l ++ (tallyWidths ++ tallyWidths)
 abbrev pub imageNumbers : Image → List ℕ
 imageNumbers i = logNumbers (recordOf i) ++ (tallyNumbers (i .checks) ++ tallyNumbers (i .seconds))
 
--- how many numbers a log and a tally have
-abbrev pub logLength : ℕ
-logLength = 8
-
-abbrev pub tallyLength : ℕ
-tallyLength = length tallyWidths
+-- marks and estimates as numbers
+abbrev pub tallyFields : ℕ
+tallyFields = length tallyWidths
 
 abbrev pub withTallies : Log → Tally → Tally → Image
 withTallies r c s = record { settings = r .settings; state = r .state; checks = c; seconds = s }
 
 abbrev pub imageOf : Engine → List ℕ → Image
 imageOf e vs =
-    withTallies (logOf e (take logLength vs)) (tallyOf (take tallyLength (drop logLength vs))) (tallyOf (drop tallyLength (drop logLength vs)))
+    withTallies (logOf e (take logFields vs)) (tallyOf (take tallyFields (drop logFields vs))) (tallyOf (drop tallyFields (drop logFields vs)))
 
 abbrev pub letterRead : EngineRead → List ℕ → Option Image
 letterRead (Is e) vs = some (imageOf e vs)
@@ -79,6 +76,7 @@ imageFormat l =
       size = imageSize l;
       widths = imageWidths l;
       zeroAt = zeroPlace;
+      fields = logFields + tallyFields + tallyFields;
       numbers = imageNumbers;
       parse = parseImage;
       ok = imageOk l;

@@ -3,7 +3,7 @@ use Prim.Native.Nat.{ℕ}
 use mathlib.Core.List.{List, [], _∷_}
 use mathlib.Core.Option.{Option, none, some}
 use lib.ListN.{getD}
-use Rattle.tally.specs.Limits.{Limits, logSize}
+use Rattle.tally.specs.Limits.{Limits, logSize, logFields}
 use Rattle.tally.specs.Refusal.{numberOf}
 use Rattle.tally.specs.declared.Engine.{Engine}
 use Rattle.tally.specs.declared.Engine.the-variants.{B}
@@ -62,6 +62,7 @@ logFormat l =
       size = logSize l;
       widths = logWidths l;
       zeroAt = zeroPlace;
+      fields = logFields;
       numbers = logNumbers;
       parse = parseLog;
       ok = logOk l;

@@ -5,7 +5,7 @@ use mathlib.Core.List.{List, [], _∷_}
 use mathlib.Core.Option.{Option, none, some}
 use lib.Dec.{eqb}
 use lib.ListN.{length, getD, replicate}
-use Rattle.tally.specs.Limits.{Limits, messageSize}
+use Rattle.tally.specs.Limits.{Limits, messageSize, messageFields}
 use Rattle.tally.specs.Refusal.{numberOf}
 use Rattle.tally.specs.declared.Engine.{Engine}
 use Rattle.tally.specs.declared.Engine.the-variants.{B}
@@ -70,6 +70,7 @@ messageFormat l =
       size = messageSize l;
       widths = messageWidths l;
       zeroAt = zeroPlace;
+      fields = messageFields;
       numbers = messageNumbers;
       parse = parseMessage;
       ok = messageOk l;

@@ -50,6 +50,13 @@ imageSize l = 150 + l .roundWidth
 abbrev pub messageSize : Limits → ℕ
 messageSize l = 16 + l .roundWidth
 
+-- a log and a message as numbers, the zero byte left out
+abbrev pub logFields : ℕ
+logFields = 8
+
+abbrev pub messageFields : ℕ
+messageFields = 9
+
 -- the bench has 128 message places; a script is at most 32,768 bytes
 abbrev pub places : ℕ
 places = 128

@@ -5,6 +5,7 @@ ghost use mathlib.Core.Path.{_≡_};
 ghost use Prim.Native.Nat.{_<_, _≤_, _-_};
 ghost use lib.Count.{ones};
 ghost use Rattle.tally.specs.Limits.{senders};
+ghost use Rattle.tally.specs.Refusal.{numberOf};
 ghost use Rattle.tally.specs.Quorum.{quorumOf, majorityOf};
 ghost use Rattle.tally.specs.Tally.{isMarked, noMarks, mark, placed, held, gathered, gatheredFrom};
 ghost use Rattle.tally.specs.Gathered.{isSome, holds, holders, common, lowest, leads, first, majority};
@@ -34,6 +35,26 @@ pub enum Refusal {
     Power,
     Unsent,
     Full,
+}
+
+// The number that a caller is told.
+pub fn number(r: Refusal) -> u32
+    ensures { λ k. ⌜ k ≡ numberOf r ⌝ }
+{
+    match r {
+        Refusal::None => 0,
+        Refusal::Length => 1,
+        Refusal::Log => 2,
+        Refusal::Image => 3,
+        Refusal::Message => 4,
+        Refusal::Addressee => 5,
+        Refusal::Mileage => 6,
+        Refusal::LastRound => 7,
+        Refusal::Line => 8,
+        Refusal::Power => 9,
+        Refusal::Unsent => 10,
+        Refusal::Full => 11,
+    }
 }
 
 // One of the sixteen estimates of a tally.

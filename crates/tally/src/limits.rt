@@ -32,6 +32,11 @@ pub const IMAGE_SIZE: usize = 152;
 
 pub const MESSAGE_SIZE: usize = 18;
 
+// A log and a message as numbers, the zero byte left out.
+pub const LOG_FIELDS: usize = 8;
+
+pub const MESSAGE_FIELDS: usize = 9;
+
 // The bench's message places, and the bytes of a script.
 pub const PLACES: usize = 128;
 
