@@ -15,6 +15,7 @@ use Rattle.tally.specs.declared.Tally.{Tally}
 use Rattle.tally.proofs.Bounds.{Sane}
 use Rattle.contents.specs.Estimates.{isB}
 use Rattle.contents.specs.Images.{logOf as recordOf, imageOk}
+use Rattle.contents.specs.Logs.{logOk}
 use Rattle.contents.specs.declared.Image.{Image}
 use Rattle.contents.proofs.Facts.{Known, TallyFacts, ImageFacts, image-facts, known-place}
 use Rattle.codec.specs.Codes.{engineOf}
@@ -129,12 +130,14 @@ module _ (l : Limits) (sane : Sane l) where
       (tally-fit (isB g) g (i .settings .n) (i .seconds) (f .seconds) (t .1)))
 
   pub lawful : Lawful (imageFormat l) TypedImage
+  unfolding imageOk logOk
   lawful =
       record {
         sized = omega arith;
         counted = refl;
         placed = omega arith;
         refuses = λ e. omega arith;
+        unread = refl;
         each = λ i t. simp (length-append, length-tally (i .checks) (t .0 .sixteen), length-tally (i .seconds) (t .1 .sixteen));
         fit = fits;
         parsed = parsed;

@@ -52,12 +52,14 @@ module _ (l : Limits) (sane : Sane l) where
         (code-fits l sane (r .state .second) (known-second l (r .settings .engine) (r .state .second) (s .second)), tt)))))))))
 
   pub lawful : Lawful (logFormat l) (λ r. Unit)
+  unfolding logOk
   lawful =
       record {
         sized = omega arith;
         counted = refl;
         placed = omega arith;
         refuses = λ e. omega arith;
+        unread = refl;
         each = λ r t. refl;
         fit = λ r t ok. fits r ok;
         parsed = λ r t ok. rw (engine-letter (r .settings .engine), of-numbers r ok);

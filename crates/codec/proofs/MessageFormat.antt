@@ -45,12 +45,14 @@ module _ (l : Limits) (sane : Sane l) where
         (code-fits l sane (m .estimate) (k .estimate), (code-fits l sane (m .proposal) (k .proposal), tt))))))))))
 
   pub lawful : Lawful (messageFormat l) (λ m. Unit)
+  unfolding messageOk
   lawful =
       record {
         sized = omega arith;
         counted = refl;
         placed = omega arith;
         refuses = λ e. omega arith;
+        unread = refl;
         each = λ m t. refl;
         fit = λ m t ok. fits m ok;
         parsed = λ m t ok. parsed m ok;

@@ -1,14 +1,14 @@
 -- Both round trips, for any format whose fields obey the laws of `Lawful`. Assumes nothing.
 use Prim.Native.Nat.{ℕ, zero, suc, _+_, _≤_, _<_}
 use mathlib.Core.Path.{_≡_, refl, sym, ap, _∙_}
-use mathlib.Core.Bool.{Bool, true, false, cond}
+use mathlib.Core.Bool.{Bool, true, false, cond, false≢true}
 use mathlib.Core.List.{List, [], _∷_, _++_}
 use mathlib.Core.Option.{Option, none, some}
 use native.Mathlib.Omega.{arith}
 use lib.Dec.{eqb}
 use lib.ListN.{length, getD, take, drop, length-append, length-drop, take-append-drop}
 use lib.Seq.{take-at, drop-at, getD-at, split-at, append-snoc, length-take-le}
-use borrow.Author.Tests.{eq-eqb, eqb-true}
+use borrow.Author.Tests.{eq-eqb, ne-eqb, eqb-true}
 use Rattle.codec.specs.Formats.{Reading, reading, Wrote, wrote, Format, withZero, without, checked, fromNumbers, fromRow, readBytes, toBytes, writeBytes}
 use Rattle.codec.specs.Numbers.{total, unpack, pack}
 use Rattle.codec.proofs.Rows.{Fit, Bytes, length-pack, length-unpack, unpack-pack, pack-unpack}
@@ -22,7 +22,7 @@ module _ (k : ℕ) (vs : List ℕ) where
   zero-there : k ≤ length vs → getD (withZero k vs) k 0 ≡ 0
   zero-there h = getD-at (take k vs) 0 (drop k vs) 0 k (front h)
 
-  without-zero : k ≤ length vs → without k (withZero k vs) ≡ vs
+  pub without-zero : k ≤ length vs → without k (withZero k vs) ≡ vs
   without-zero h =
       let d : drop (suc k) (withZero k vs) ≡ drop k vs =
       rw (← append-snoc (take k vs) 0 (drop k vs))
@@ -46,6 +46,7 @@ pub record Lawful {A : Type 0} (f : Format A) (Typed : A → Type 0) : Type 0 wh
   pub counted : suc (f .fields) ≡ length (f .widths)
   pub placed : f .zeroAt < length (f .widths)
   pub refuses : (f .malformed ≡ 0) → ⊥
+  pub unread : f .ok (f .nothing) ≡ false
   pub each : (a : A) → Typed a → length (f .numbers a) ≡ f .fields
   pub fit : (a : A) → Typed a → f .ok a ≡ true → Fit (f .widths) (withZero (f .zeroAt) (f .numbers a))
   pub parsed : (a : A) → Typed a → f .ok a ≡ true → f .parse (f .numbers a) ≡ some a
@@ -88,28 +89,51 @@ module _ {A : Type 0} (f : Format A) (Typed : A → Type 0) (law : Lawful f Type
       )
       (from-numbers a t ok)
 
-  -- what is read is well formed, and writing it gives the bytes
-  pub written-read : (bs : List ℕ) (a : A) → Bytes bs → readBytes f bs ≡ reading 0 a → (f .ok a ≡ true) × (toBytes f a ≡ bs)
-  written-read bs a b e = go (eqb (length bs) (f .size)) refl e
+  -- the tests that bytes have passed where they are read
+  record Passed (bs : List ℕ) (a : A) : Type 0 where
+    size : length bs ≡ f .size
+    zero-byte : getD (unpack 0 (f .widths) bs) (f .zeroAt) 0 ≡ 0
+    numbers : fromNumbers f (without (f .zeroAt) (unpack 0 (f .widths) bs)) ≡ reading 0 a
+
+  passed : (bs : List ℕ) (a : A) → readBytes f bs ≡ reading 0 a → Passed bs a
+  passed bs a e = go (eqb (length bs) (f .size)) refl e
     where
       vs : List ℕ
       vs = unpack 0 (f .widths) bs
 
-      go : (t : Bool) → eqb (length bs) (f .size) ≡ t → cond t (fromRow f vs) (reading 1 (f .nothing)) ≡ reading 0 a → (f .ok a ≡ true) × (toBytes f a ≡ bs)
+      go : (t : Bool) → eqb (length bs) (f .size) ≡ t → cond t (fromRow f vs) (reading 1 (f .nothing)) ≡ reading 0 a → Passed bs a
       go false len e = let one : _≡_ {A = ℕ} 1 0 = ap (λ (r : Reading A). r .number) e in absurd (omega arith)
       go true len e = by (eqb (getD vs (f .zeroAt) 0) 0) refl e
         where
-          size : 0 + total (f .widths) ≡ length bs
-          size = omega (arith, eqb-true (length bs) (f .size) len, law .sized)
-
           by : (t : Bool) → eqb (getD vs (f .zeroAt) 0) 0 ≡ t
-              → cond t (fromNumbers f (without (f .zeroAt) vs)) (reading (f .malformed) (f .nothing)) ≡ reading 0 a → (f .ok a ≡ true) × (toBytes f a ≡ bs)
+              → cond t (fromNumbers f (without (f .zeroAt) vs)) (reading (f .malformed) (f .nothing)) ≡ reading 0 a → Passed bs a
           by false z e = absurd (law .refuses (ap (λ (r : Reading A). r .number) e))
-          by true z e =
-              let below : f .zeroAt < length vs = omega (arith, law .placed, length-unpack 0 (f .widths) bs) in
-              let len : length (without (f .zeroAt) vs) ≡ f .fields = omega (arith, law .counted, length-without (f .zeroAt) vs below, length-unpack 0 (f .widths) bs) in
-              let g = numbers-back (without (f .zeroAt) vs) a len e in
-              (g .0, rw (g .1, zero-back (f .zeroAt) vs below (eqb-true _ _ z)) (pack-unpack (f .widths) bs 0 b size))
+          by true z e = record { size = eqb-true _ _ len; zero-byte = eqb-true _ _ z; numbers = e }
+
+  -- what is read is well formed, and has the numbers of the row
+  from-row : (bs : List ℕ) (a : A) → Passed bs a → (f .ok a ≡ true) × (f .numbers a ≡ without (f .zeroAt) (unpack 0 (f .widths) bs))
+  from-row bs a p =
+      let vs = unpack 0 (f .widths) bs in
+      let below : f .zeroAt < length vs = omega (arith, law .placed, length-unpack 0 (f .widths) bs) in
+      let len : length (without (f .zeroAt) vs) ≡ f .fields =
+      omega (arith, law .counted, length-without (f .zeroAt) vs below, length-unpack 0 (f .widths) bs) in
+      numbers-back (without (f .zeroAt) vs) a len (p .numbers)
+
+  -- what is read is well formed, and writing it gives the bytes
+  pub written-read : (bs : List ℕ) (a : A) → Bytes bs → readBytes f bs ≡ reading 0 a → (f .ok a ≡ true) × (toBytes f a ≡ bs)
+  written-read bs a b e =
+      let p = passed bs a e in
+      let g = from-row bs a p in
+      let vs = unpack 0 (f .widths) bs in
+      let below : f .zeroAt < length vs = omega (arith, law .placed, length-unpack 0 (f .widths) bs) in
+      (g .0, rw (g .1, zero-back (f .zeroAt) vs below (p .zero-byte)) (pack-unpack (f .widths) bs 0 b (omega (arith, p .size, law .sized))))
+
+  -- the number of a refusal is not 0
+  pub refused-number : (bs : List ℕ) (k : ℕ) → readBytes f bs ≡ reading k (f .nothing) → eqb k 0 ≡ false
+  refused-number bs k e = ne-eqb k 0 λ z. bad (from-row bs (f .nothing) (passed bs (f .nothing) (rw z at e)) .0)
+    where
+      bad : f .ok (f .nothing) ≡ true → ⊥
+      bad ok = false≢true (sym (law .unread) ∙ ok)
 
   -- ---- the same of the calls
 

@@ -1,0 +1,53 @@
+-- Logs and messages between plain numbers and bytes: what the four calls answer. Assumes nothing.
+use Prim.Native.Nat.{ℕ, suc, _^_}
+use mathlib.Core.Bool.{Bool, true, false, cond, _&&_}
+use mathlib.Core.List.{List, [], _∷_}
+use lib.Dec.{eqb, ltb}
+use lib.ListN.{length, getD, take}
+use Rattle.tally.specs.Limits.{Limits, today}
+use Rattle.codec.specs.Formats.{Reading, Wrote, wrote, Format, without, fromNumbers, readBytes, toBytes}
+use Rattle.codec.specs.Logs.{logFormat}
+use Rattle.codec.specs.Messages.{messageFormat, cleared}
+
+-- the numbers of what was read, or the fields as they were
+abbrev pub putNumbers : {A : Type 0} → Format A → Reading A → List ℕ → Wrote
+putNumbers f r fs = cond (eqb (r .number) 0) (wrote 0 (f .numbers (r .contents))) (wrote (r .number) fs)
+
+-- the bytes of what was read, or what is kept
+abbrev pub putChecked : {A : Type 0} → Format A → Reading A → List ℕ → Wrote
+putChecked f r kept = cond (eqb (r .number) 0) (wrote 0 (toBytes f (r .contents))) (wrote (r .number) kept)
+
+-- reading bytes into fields: 1 where a length is wrong
+abbrev pub readCall : {A : Type 0} → Format A → List ℕ → List ℕ → Wrote
+readCall f bs fs = cond (eqb (length fs) (f .fields)) (putNumbers f (readBytes f bs) fs) (wrote 1 fs)
+
+-- writing fields as bytes: 1 where a length is wrong
+abbrev pub writeCall : {A : Type 0} → Format A → List ℕ → List ℕ → List ℕ → Wrote
+writeCall f fs kept bs =
+    cond (eqb (length fs) (f .fields) && eqb (length bs) (f .size)) (putChecked f (fromNumbers f fs) kept) (wrote 1 kept)
+
+unfoldable pub readLogCall : Limits → List ℕ → List ℕ → Wrote
+readLogCall l bs fs = readCall (logFormat l) bs fs
+
+-- a refused log write leaves every byte
+unfoldable pub writeLogCall : Limits → List ℕ → List ℕ → Wrote
+writeLogCall l fs bs = writeCall (logFormat l) fs bs bs
+
+unfoldable pub readMessageCall : Limits → List ℕ → List ℕ → Wrote
+readMessageCall l bs fs = readCall (messageFormat l) bs fs
+
+-- a refused message write leaves an empty message in a buffer of its length
+unfoldable pub writeMessageCall : Limits → List ℕ → List ℕ → Wrote
+writeMessageCall l fs bs = writeCall (messageFormat l) fs (cleared l bs) bs
+
+-- the numbers from place o on fit these many bytes each; what the code tests before it takes them
+abbrev pub narrow : Bool → ℕ → List ℕ → List ℕ → Bool
+narrow ok o [] vs = ok
+narrow ok o (w ∷ ws) vs = narrow (ok && ltb (getD vs o 0) (256 ^ w)) (suc o) ws vs
+
+-- all but the estimates, which have the width of the numbers given
+unfoldable pub logNarrow : List ℕ → Bool
+logNarrow vs = narrow true 0 (take 5 (without (logFormat today .zeroAt) (logFormat today .widths))) vs
+
+unfoldable pub messageNarrow : List ℕ → Bool
+messageNarrow vs = narrow true 0 (take 7 (without (messageFormat today .zeroAt) (messageFormat today .widths))) vs

@@ -1,0 +1,124 @@
+// Contents as plain numbers, one to a field.
+use contents::Kind;
+use contents::Log;
+use contents::Message;
+use contents::Settings;
+use contents::State;
+use tally::Engine;
+use tally::limits::Round;
+ghost use mathlib.Core.Path.{_≡_};
+ghost use mathlib.Core.Bool.{true};
+ghost use lib.ListN.{length};
+ghost use Rattle.tally.specs.Limits.{logFields, messageFields};
+ghost use Rattle.codec.specs.Logs.{logNumbers, logOf};
+ghost use Rattle.codec.specs.Messages.{messageNumbers, messageOf};
+ghost use Rattle.mileage.specs.Fields.{logNarrow, messageNarrow};
+
+// Does each number fit its bytes?
+pub(crate) fn log_narrow(f: &[u32]) -> bool
+    requires { ⌜ length (now f) ≡ logFields ⌝ }
+    ensures { λ r. ⌜ r ≡ logNarrow (now (f .entry)) ⌝ }
+{
+    (f[0] < 256) & (f[1] < 256) & (f[2] < 256) & (f[3] < 65536) & (f[4] < 65536)
+}
+
+pub(crate) fn log_of(engine: Engine, f: &[u32]) -> Log
+    requires { ⌜ (length (now f) ≡ logFields) × (logNarrow (now f) ≡ true) ⌝ }
+    ensures { λ r. ⌜ r ≡ logOf engine (now (f .entry)) ⌝ }
+{
+    Log {
+        settings: Settings {
+            engine,
+            n: f[1] as u8,
+            unit: f[2] as u8,
+            entry: f[3] as u16,
+        },
+        state: State {
+            round: f[4] as Round,
+            proposal: codec::codes::estimate_of(f[5]),
+            first: codec::codes::estimate_of(f[6]),
+            second: codec::codes::estimate_of(f[7]),
+        },
+    }
+}
+
+pub(crate) fn put_log(log: Log, f: &mut [u32])
+    requires { ⌜ length (now f) ≡ logFields ⌝ }
+    ensures { λ _. ⌜ now (f .exit) ≡ logNumbers log ⌝ }
+{
+    let settings = log.settings;
+    let state = log.state;
+    let engine = settings.engine;
+    let proposal = state.proposal;
+    let first = state.first;
+    let second = state.second;
+    f[0] = wide8(codec::codes::letter_of(engine));
+    f[1] = wide8(settings.n);
+    f[2] = wide8(settings.unit);
+    f[3] = wide16(settings.entry);
+    f[4] = wide16(state.round);
+    f[5] = codec::codes::code_of(proposal);
+    f[6] = codec::codes::code_of(first);
+    f[7] = codec::codes::code_of(second);
+}
+
+pub(crate) fn message_narrow(f: &[u32]) -> bool
+    requires { ⌜ length (now f) ≡ messageFields ⌝ }
+    ensures { λ r. ⌜ r ≡ messageNarrow (now (f .entry)) ⌝ }
+{
+    (f[0] < 256)
+        & (f[1] < 256)
+        & (f[2] < 256)
+        & (f[3] < 256)
+        & (f[4] < 256)
+        & (f[5] < 65536)
+        & (f[6] < 65536)
+}
+
+pub(crate) fn message_of(kind: Kind, engine: Engine, f: &[u32]) -> Message
+    requires { ⌜ (length (now f) ≡ messageFields) × (messageNarrow (now f) ≡ true) ⌝ }
+    ensures { λ r. ⌜ r ≡ messageOf kind engine (now (f .entry)) ⌝ }
+{
+    Message {
+        kind,
+        engine,
+        n: f[2] as u8,
+        sender: f[3] as u8,
+        receiver: f[4] as u8,
+        entry: f[5] as u16,
+        round: f[6] as Round,
+        estimate: codec::codes::estimate_of(f[7]),
+        proposal: codec::codes::estimate_of(f[8]),
+    }
+}
+
+pub(crate) fn put_message(m: Message, f: &mut [u32])
+    requires { ⌜ length (now f) ≡ messageFields ⌝ }
+    ensures { λ _. ⌜ now (f .exit) ≡ messageNumbers m ⌝ }
+{
+    let kind = m.kind;
+    let engine = m.engine;
+    let estimate = m.estimate;
+    let proposal = m.proposal;
+    f[0] = wide8(codec::codes::kind_letter(kind));
+    f[1] = wide8(codec::codes::letter_of(engine));
+    f[2] = wide8(m.n);
+    f[3] = wide8(m.sender);
+    f[4] = wide8(m.receiver);
+    f[5] = wide16(m.entry);
+    f[6] = wide16(m.round);
+    f[7] = codec::codes::code_of(estimate);
+    f[8] = codec::codes::code_of(proposal);
+}
+
+fn wide8(x: u8) -> u32
+    ensures { λ r. ⌜ r ≡ x ⌝ }
+{
+    x as u32
+}
+
+fn wide16(x: u16) -> u32
+    ensures { λ r. ⌜ r ≡ x ⌝ }
+{
+    x as u32
+}

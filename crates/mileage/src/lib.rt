@@ -1,0 +1,107 @@
+// What a C program links: logs and messages as plain numbers and as bytes.
+mod fields;
+use codec::EngineRead;
+use codec::KindRead;
+use codec::LogRead;
+use codec::MessageRead;
+use tally::Refusal;
+use tally::limits;
+ghost use mathlib.Core.Path.{_≡_};
+ghost use mathlib.Core.Bool.{true};
+ghost use lib.ListN.{length};
+ghost use Rattle.tally.specs.Limits.{today, messageSize, messageFields};
+ghost use Rattle.codec.specs.Formats.{wrote, checked};
+ghost use Rattle.codec.specs.Messages.{lettersRead, messageFormat, cleared};
+ghost use Rattle.mileage.specs.Fields.{messageNarrow, putChecked, readLogCall, writeLogCall, readMessageCall, writeMessageCall};
+
+// Reads a log's eight numbers: engine letter, n, unit, entry, round, proposal, first and second estimate.
+#[no_mangle]
+pub extern "C" fn mileage_read_log(log: &[u8], fields: &mut [u32]) -> u32
+    ensures { λ r. ⌜ wrote r (now (fields .exit)) ≡ readLogCall today (now (log .entry)) (now (fields .entry)) ⌝ }
+{
+    if fields.len() != limits::LOG_FIELDS {
+        return tally::number(Refusal::Length);
+    }
+    match codec::logs::read_log(log) {
+        LogRead::Read(l) => {
+            fields::put_log(l, fields);
+            tally::number(Refusal::None)
+        }
+        LogRead::Refused(k) => tally::number(k),
+    }
+}
+
+// Writes a log of its eight numbers.
+#[no_mangle]
+pub extern "C" fn mileage_write_log(fields: &[u32], log: &mut [u8]) -> u32
+    ensures { λ r. ⌜ wrote r (now (log .exit)) ≡ writeLogCall today (now (fields .entry)) (now (log .entry)) ⌝ }
+{
+    if (fields.len() != limits::LOG_FIELDS) | (log.len() != limits::LOG_SIZE) {
+        return tally::number(Refusal::Length);
+    }
+    if !fields::log_narrow(fields) {
+        return tally::number(Refusal::Log);
+    }
+    match codec::codes::engine_of(fields[0] as u8) {
+        EngineRead::Is(e) => tally::number(codec::logs::write_log(fields::log_of(e, fields), log)),
+        EngineRead::Unknown => tally::number(Refusal::Log),
+    }
+}
+
+// Reads a message's nine numbers: kind and engine letter, n, sender, receiver, entry, round, estimate, proposal.
+#[no_mangle]
+pub extern "C" fn mileage_read_message(message: &[u8], fields: &mut [u32]) -> u32
+    ensures { λ r. ⌜ wrote r (now (fields .exit)) ≡ readMessageCall today (now (message .entry)) (now (fields .entry)) ⌝ }
+{
+    if fields.len() != limits::MESSAGE_FIELDS {
+        return tally::number(Refusal::Length);
+    }
+    match codec::messages::read_message(message) {
+        MessageRead::Read(m) => {
+            fields::put_message(m, fields);
+            tally::number(Refusal::None)
+        }
+        MessageRead::Refused(k) => tally::number(k),
+    }
+}
+
+// Writes the message of known letters, into a buffer that has been cleared.
+fn write_known(kind: KindRead, engine: EngineRead, fields: &[u32], message: &mut [u8]) -> u32
+    requires { ⌜ (length (now fields) ≡ messageFields) × ((messageNarrow (now fields) ≡ true) × (length (now message) ≡ messageSize today)) ⌝ }
+    ensures { λ r. ⌜ wrote r (now (message .exit)) ≡ putChecked (messageFormat today) (checked (messageFormat today) (lettersRead kind engine (now (fields .entry)))) (cleared today (now (message .entry))) ⌝ }
+{
+    match kind {
+        KindRead::Is(k) => match engine {
+            EngineRead::Is(e) => tally::number(
+                codec::messages::write_message(fields::message_of(k, e, fields), message),
+            ),
+            EngineRead::Unknown => refuse_message(message),
+        },
+        KindRead::Unknown => refuse_message(message),
+    }
+}
+
+// Writes a message of its nine numbers.
+#[no_mangle]
+pub extern "C" fn mileage_write_message(fields: &[u32], message: &mut [u8]) -> u32
+    ensures { λ r. ⌜ wrote r (now (message .exit)) ≡ writeMessageCall today (now (fields .entry)) (now (message .entry)) ⌝ }
+{
+    if (fields.len() != limits::MESSAGE_FIELDS) | (message.len() != limits::MESSAGE_SIZE) {
+        codec::messages::clear(message);
+        return tally::number(Refusal::Length);
+    }
+    if !fields::message_narrow(fields) {
+        return refuse_message(message);
+    }
+    let kind = codec::codes::kind_of(fields[0] as u8);
+    let engine = codec::codes::engine_of(fields[1] as u8);
+    write_known(kind, engine, fields, message)
+}
+
+// A malformed message leaves an empty one.
+fn refuse_message(message: &mut [u8]) -> u32
+    ensures { λ r. ⌜ wrote r (now (message .exit)) ≡ wrote 4 (cleared today (now (message .entry))) ⌝ }
+{
+    codec::messages::clear(message);
+    tally::number(Refusal::Message)
+}
