@@ -10,6 +10,7 @@ ghost use mathlib.Core.Path.{_≡_};
 ghost use mathlib.Core.Bool.{true};
 ghost use lib.ListN.{length};
 ghost use Rattle.tally.specs.Limits.{today, messageSize, messageFields};
+ghost use Rattle.tally.specs.Refusal.{numberOf};
 ghost use Rattle.codec.specs.Formats.{wrote, checked};
 ghost use Rattle.codec.specs.Messages.{lettersRead, messageFormat, cleared};
 ghost use Rattle.mileage.specs.Fields.{messageNarrow, putChecked, readLogCall, writeLogCall, readMessageCall, writeMessageCall};
@@ -36,7 +37,10 @@ pub extern "C" fn mileage_read_log(log: &[u8], fields: &mut [u32]) -> u32
 pub extern "C" fn mileage_write_log(fields: &[u32], log: &mut [u8]) -> u32
     ensures { λ r. ⌜ wrote r (now (log .exit)) ≡ writeLogCall today (now (fields .entry)) (now (log .entry)) ⌝ }
 {
-    if (fields.len() != limits::LOG_FIELDS) | (log.len() != limits::LOG_SIZE) {
+    if fields.len() != limits::LOG_FIELDS {
+        return tally::number(Refusal::Length);
+    }
+    if log.len() != limits::LOG_SIZE {
         return tally::number(Refusal::Length);
     }
     if !fields::log_narrow(fields) {
@@ -65,7 +69,15 @@ pub extern "C" fn mileage_read_message(message: &[u8], fields: &mut [u32]) -> u3
     }
 }
 
-// Writes the message of known letters, into a buffer that has been cleared.
+// A refused message write leaves an empty message.
+fn refuse(why: Refusal, message: &mut [u8]) -> u32
+    ensures { λ r. ⌜ wrote r (now (message .exit)) ≡ wrote (numberOf why) (cleared today (now (message .entry))) ⌝ }
+{
+    codec::messages::clear(message);
+    tally::number(why)
+}
+
+// Writes a message whose letters have been looked up.
 fn write_known(kind: KindRead, engine: EngineRead, fields: &[u32], message: &mut [u8]) -> u32
     requires { ⌜ (length (now fields) ≡ messageFields) × ((messageNarrow (now fields) ≡ true) × (length (now message) ≡ messageSize today)) ⌝ }
     ensures { λ r. ⌜ wrote r (now (message .exit)) ≡ putChecked (messageFormat today) (checked (messageFormat today) (lettersRead kind engine (now (fields .entry)))) (cleared today (now (message .entry))) ⌝ }
@@ -75,9 +87,9 @@ fn write_known(kind: KindRead, engine: EngineRead, fields: &[u32], message: &mut
             EngineRead::Is(e) => tally::number(
                 codec::messages::write_message(fields::message_of(k, e, fields), message),
             ),
-            EngineRead::Unknown => refuse_message(message),
+            EngineRead::Unknown => refuse(Refusal::Message, message),
         },
-        KindRead::Unknown => refuse_message(message),
+        KindRead::Unknown => refuse(Refusal::Message, message),
     }
 }
 
@@ -86,22 +98,16 @@ fn write_known(kind: KindRead, engine: EngineRead, fields: &[u32], message: &mut
 pub extern "C" fn mileage_write_message(fields: &[u32], message: &mut [u8]) -> u32
     ensures { λ r. ⌜ wrote r (now (message .exit)) ≡ writeMessageCall today (now (fields .entry)) (now (message .entry)) ⌝ }
 {
-    if (fields.len() != limits::MESSAGE_FIELDS) | (message.len() != limits::MESSAGE_SIZE) {
-        codec::messages::clear(message);
-        return tally::number(Refusal::Length);
+    if fields.len() != limits::MESSAGE_FIELDS {
+        return refuse(Refusal::Length, message);
+    }
+    if message.len() != limits::MESSAGE_SIZE {
+        return refuse(Refusal::Length, message);
     }
     if !fields::message_narrow(fields) {
-        return refuse_message(message);
+        return refuse(Refusal::Message, message);
     }
     let kind = codec::codes::kind_of(fields[0] as u8);
     let engine = codec::codes::engine_of(fields[1] as u8);
     write_known(kind, engine, fields, message)
-}
-
-// A malformed message leaves an empty one.
-fn refuse_message(message: &mut [u8]) -> u32
-    ensures { λ r. ⌜ wrote r (now (message .exit)) ≡ wrote 4 (cleared today (now (message .entry))) ⌝ }
-{
-    codec::messages::clear(message);
-    tally::number(Refusal::Message)
 }

@@ -1,55 +1,60 @@
+use mathlib.Core.Path.{_≡_, refl, sym, ap, _∙_}
+use borrow.Author.Tests.{eq-eqb, ne-eqb, not-true, not-false}
+use Rattle.tally.specs.Limits.{today}
+use Rattle.tally.specs.Refusal.{numberOf}
+use Rattle.tally.proofs.Bounds.{sane-today}
+use Rattle.codec.specs.Formats.{wrote}
+use Rattle.codec.specs.Logs.{logFormat, logReading, readLog}
+use Rattle.codec.proofs.RoundTrips.{refused-number}
+use Rattle.codec.proofs.LogFormat.{lawful}
+use Rattle.mileage.specs.Fields.{readLogCall}
 use borrow.Author.Needs.{needs}
 use Rattle.mileage.proofs.mileage_read_log.Statement.{statement}
 use Rattle.mileage.proofs.mileage_read_log.Tie as tie
-use Rattle.mileage.proofs.mileage_read_log.Reads as reads
-use Rattle.mileage.proofs.mileage_read_log.Lts as lts
-use Rattle.codec.proofs.logs.read_log.Reads as read-log-reads
-use Rattle.mileage.proofs.fields.put_log.Reads as put-log-reads
-use Rattle.tally.proofs.number.Reads as number-reads
 
--- src/lib.rt:23:9
 number-requires : tie.Need-number-requires
 number-requires c κs = search needs
 
--- src/lib.rt:23:9
 returns : tie.Need-returns
-returns c = ?
+unfolding readLog readLogCall
+returns c = rw (ne-eqb _ _ (c .before .if1 .taken), c .number .ensures)
 
--- src/lib.rt:25:11
 read-log-requires : tie.Need-read-log-requires
 read-log-requires c κs = search needs
 
--- src/lib.rt:26:23
 enum-known-l : tie.Need-enum-known-l
 enum-known-l c = search needs
 
--- src/lib.rt:27:13
 put-log-requires : tie.Need-put-log-requires
 put-log-requires c κs = search needs
 
--- src/lib.rt:28:13
 number-requires-2 : tie.Need-number-requires-2
 number-requires-2 c κs = search needs
 
--- src/lib.rt:30:26
 enum-known-k : tie.Need-enum-known-k
 enum-known-k c = search needs
 
--- src/lib.rt:30:32
 number-requires-3 : tie.Need-number-requires-3
 number-requires-3 c κs = search needs
 
--- src/lib.rt:18:1
 same-length : tie.Need-same-length
 same-length c = search needs
 
--- src/lib.rt:18:1
 returns-2 : tie.Need-returns-2
-returns-2 c = ?
+unfolding readLog readLogCall
+returns-2 c = 
+    let b = c .before .before .before .before .before .before in
+    let taken = sym (b .before .before .read-log .ensures) ∙ ap logReading (b .l .given .1) in
+    rw (eq-eqb _ _ (b .before .before .before .if1 .left), taken, c .number2 .ensures) (ap (wrote 0) (c .before .before .before .put-log .ensures))
 
--- src/lib.rt:18:1
 returns-3 : tie.Need-returns-3
-returns-3 c = ?
+unfolding readLog readLogCall
+returns-3 c = 
+    let b = c .before .before .before .before in
+    let taken = sym (b .read-log .ensures) ∙ ap logReading (c .before .before .k .given .1) in
+    let bs = b .before .before .before .before .args .log .now in
+    let refused = refused-number (logFormat today) (λ a. Unit) (lawful today sane-today) bs (numberOf (c .before .before .k .given .0 .0)) taken in
+    rw (eq-eqb _ _ (b .before .if1 .left), taken, refused, c .number3 .ensures)
 
 pub mileage-read-log-spec : {M : Type 1} → statement M
 mileage-read-log-spec =

@@ -1,55 +1,60 @@
+use mathlib.Core.Path.{_≡_, refl, sym, ap, _∙_}
+use borrow.Author.Tests.{eq-eqb, ne-eqb, not-true, not-false}
+use Rattle.tally.specs.Limits.{today}
+use Rattle.tally.specs.Refusal.{numberOf}
+use Rattle.tally.proofs.Bounds.{sane-today}
+use Rattle.codec.specs.Formats.{wrote}
+use Rattle.codec.specs.Messages.{messageFormat, messageReading, readMessage}
+use Rattle.codec.proofs.RoundTrips.{refused-number}
+use Rattle.codec.proofs.MessageFormat.{lawful}
+use Rattle.mileage.specs.Fields.{readMessageCall}
 use borrow.Author.Needs.{needs}
 use Rattle.mileage.proofs.mileage_read_message.Statement.{statement}
 use Rattle.mileage.proofs.mileage_read_message.Tie as tie
-use Rattle.mileage.proofs.mileage_read_message.Reads as reads
-use Rattle.mileage.proofs.mileage_read_message.Lts as lts
-use Rattle.codec.proofs.messages.read_message.Reads as read-message-reads
-use Rattle.mileage.proofs.fields.put_message.Reads as put-message-reads
-use Rattle.tally.proofs.number.Reads as number-reads
 
--- src/lib.rt:57:9
 number-requires : tie.Need-number-requires
 number-requires c κs = search needs
 
--- src/lib.rt:57:9
 returns : tie.Need-returns
-returns c = ?
+unfolding readMessage readMessageCall
+returns c = rw (ne-eqb _ _ (c .before .if1 .taken), c .number .ensures)
 
--- src/lib.rt:59:11
 read-message-requires : tie.Need-read-message-requires
 read-message-requires c κs = search needs
 
--- src/lib.rt:60:27
 enum-known-m : tie.Need-enum-known-m
 enum-known-m c = search needs
 
--- src/lib.rt:61:13
 put-message-requires : tie.Need-put-message-requires
 put-message-requires c κs = search needs
 
--- src/lib.rt:62:13
 number-requires-2 : tie.Need-number-requires-2
 number-requires-2 c κs = search needs
 
--- src/lib.rt:64:30
 enum-known-k : tie.Need-enum-known-k
 enum-known-k c = search needs
 
--- src/lib.rt:64:36
 number-requires-3 : tie.Need-number-requires-3
 number-requires-3 c κs = search needs
 
--- src/lib.rt:52:1
 same-length : tie.Need-same-length
 same-length c = search needs
 
--- src/lib.rt:52:1
 returns-2 : tie.Need-returns-2
-returns-2 c = ?
+unfolding readMessage readMessageCall
+returns-2 c = 
+    let b = c .before .before .before .before .before .before in
+    let taken = sym (b .before .before .read-message .ensures) ∙ ap messageReading (b .m .given .1) in
+    rw (eq-eqb _ _ (b .before .before .before .if1 .left), taken, c .number2 .ensures) (ap (wrote 0) (c .before .before .before .put-message .ensures))
 
--- src/lib.rt:52:1
 returns-3 : tie.Need-returns-3
-returns-3 c = ?
+unfolding readMessage readMessageCall
+returns-3 c = 
+    let b = c .before .before .before .before in
+    let taken = sym (b .read-message .ensures) ∙ ap messageReading (c .before .before .k .given .1) in
+    let bs = b .before .before .before .before .args .message .now in
+    let refused = refused-number (messageFormat today) (λ a. Unit) (lawful today sane-today) bs (numberOf (c .before .before .k .given .0 .0)) taken in
+    rw (eq-eqb _ _ (b .before .if1 .left), taken, refused, c .number3 .ensures)
 
 pub mileage-read-message-spec : {M : Type 1} → statement M
 mileage-read-message-spec =

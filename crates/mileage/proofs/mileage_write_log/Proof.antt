@@ -1,81 +1,93 @@
+use mathlib.Core.Path.{_≡_, refl, sym, ap, _∙_}
+use borrow.Author.Tests.{eq-eqb, ne-eqb, not-true, not-false}
+use native.Mathlib.Omega.{arith}
+use Rattle.tally.specs.Limits.{today}
+use Rattle.tally.proofs.Bounds.{sane-today}
+use Rattle.codec.specs.Logs.{logOf, logFormat, writeLog}
+use Rattle.codec.proofs.LogFormat.{lawful}
+use Rattle.mileage.specs.Fields.{logNarrow, writeLogCall}
+use Rattle.mileage.proofs.Narrow.{log-small, too-large}
+use Rattle.mileage.proofs.Calls.{put-checked}
 use borrow.Author.Needs.{needs}
 use Rattle.mileage.proofs.mileage_write_log.Statement.{statement}
 use Rattle.mileage.proofs.mileage_write_log.Tie as tie
-use Rattle.mileage.proofs.mileage_write_log.Reads as reads
-use Rattle.mileage.proofs.mileage_write_log.Lts as lts
-use Rattle.codec.proofs.codes.engine_of.Reads as engine-of-reads
-use Rattle.codec.proofs.logs.write_log.Reads as write-log-reads
-use Rattle.mileage.proofs.fields.log_narrow.Reads as log-narrow-reads
-use Rattle.mileage.proofs.fields.log_of.Reads as log-of-reads
-use Rattle.tally.proofs.number.Reads as number-reads
 
--- src/lib.rt:40:9
 number-requires : tie.Need-number-requires
 number-requires c κs = search needs
 
--- src/lib.rt:40:9
 returns : tie.Need-returns
-returns c = ?
+unfolding logNarrow writeLog writeLogCall
+returns c = rw (ne-eqb _ _ (c .before .if1 .taken), c .number .ensures)
 
--- src/lib.rt:42:9
-log-narrow-requires : tie.Need-log-narrow-requires
-log-narrow-requires c κs = ?
-
--- src/lib.rt:43:9
 number-requires-2 : tie.Need-number-requires-2
 number-requires-2 c κs = search needs
 
--- src/lib.rt:43:9
 returns-2 : tie.Need-returns-2
-returns-2 c = ?
+unfolding logNarrow writeLog writeLogCall
+returns-2 c = rw (eq-eqb _ _ (c .before .before .if1 .left), ne-eqb _ _ (c .before .if2 .taken), c .number2 .ensures)
 
--- src/lib.rt:45:35
-shared-slice-read-engine-of : tie.Need-shared-slice-read-engine-of
-shared-slice-read-engine-of c = ?
+log-narrow-requires : tie.Need-log-narrow-requires
+log-narrow-requires c κs = search needs
 
--- src/lib.rt:45:35
-cast-engine-of : tie.Need-cast-engine-of
-cast-engine-of c = ?
-
--- src/lib.rt:45:11
-engine-of-requires : tie.Need-engine-of-requires
-engine-of-requires c κs = search needs
-
--- src/lib.rt:46:24
-enum-known-e : tie.Need-enum-known-e
-enum-known-e c = search needs
-
--- src/lib.rt:46:67
-log-of-requires : tie.Need-log-of-requires
-log-of-requires c κs = ?
-
--- src/lib.rt:46:44
-write-log-requires : tie.Need-write-log-requires
-write-log-requires c κs = search needs
-
--- src/lib.rt:46:30
 number-requires-3 : tie.Need-number-requires-3
 number-requires-3 c κs = search needs
 
--- src/lib.rt:47:46
-enum-told : tie.Need-enum-told
-enum-told c = search needs
+returns-3 : tie.Need-returns-3
+unfolding logNarrow writeLog writeLogCall
+returns-3 c = 
+    let fs = c .before .before .before .before .before .before .before .args .fields .now in
+    let wide = sym (c .before .before .log-narrow .ensures) ∙ not-true _ (c .before .if3 .taken) in
+    let refused = too-large (logFormat today) (lawful today sane-today) fs 5 (c .before .before .before .before .if1 .left) wide in
+    rw (eq-eqb _ _ (c .before .before .before .before .if1 .left), eq-eqb _ _ (c .before .before .before .if2 .left), refused, c .number3 .ensures)
 
--- src/lib.rt:47:32
+shared-slice-read-engine-of : tie.Need-shared-slice-read-engine-of
+shared-slice-read-engine-of c = search needs
+
+cast-engine-of : tie.Need-cast-engine-of
+unfolding logNarrow writeLog writeLogCall
+cast-engine-of c = let small = log-small (c .before .before .before .before .before .before .before .args .fields .now) (sym (c .before .before .log-narrow .ensures) ∙ not-false _ (c .before .if3 .left)) in omega arith
+
+engine-of-requires : tie.Need-engine-of-requires
+engine-of-requires c κs = search needs
+
+enum-known-e : tie.Need-enum-known-e
+enum-known-e c = search needs
+
+log-of-requires : tie.Need-log-of-requires
+unfolding logNarrow writeLog writeLogCall
+log-of-requires c κs = (search needs, sym (c .before .before .before .before .before .before .log-narrow .ensures) ∙ not-false _ (c .before .before .before .before .before .if3 .left))
+
+write-log-requires : tie.Need-write-log-requires
+write-log-requires c κs = search needs
+
 number-requires-4 : tie.Need-number-requires-4
 number-requires-4 c κs = search needs
 
--- src/lib.rt:35:1
+enum-told : tie.Need-enum-told
+enum-told c = search needs
+
+number-requires-5 : tie.Need-number-requires-5
+number-requires-5 c κs = search needs
+
 same-length : tie.Need-same-length
 same-length c = search needs
 
--- src/lib.rt:35:1
-returns-3 : tie.Need-returns-3
-returns-3 c = ?
-
--- src/lib.rt:35:1
 returns-4 : tie.Need-returns-4
-returns-4 c = ?
+unfolding logNarrow writeLog writeLogCall
+returns-4 c = 
+    let e = c .before .before .before .before .before .before .before .e .given in
+    let start = c .before .before .before .before .before .before .before .before .before .before .before .before .before .before .before .before .before .args in
+    let letter = sym (c .before .before .before .before .before .before .before .before .before .engine-of .ensures) ∙ e .1 in
+    rw (eq-eqb _ _ (c .before .before .before .before .before .before .before .before .before .before .before .before .before .before .if1 .left), eq-eqb _ _ (c .before .before .before .before .before .before .before .before .before .before .before .before .before .if2 .left), letter, c .number4 .ensures)
+    (c .before .before .before .write-log .ensures
+    ∙ ap (λ r. writeLog today r (start .log .now)) (c .before .before .before .before .before .log-of .ensures)
+    ∙ sym (put-checked (logFormat today) (lawful today sane-today) (logOf (e .0 .0) (start .fields .now)) (start .log .now) (start .log .now) (c .before .before .before .before .before .before .before .before .before .before .before .before .before .if2 .left)))
+
+returns-5 : tie.Need-returns-5
+unfolding logNarrow writeLog writeLogCall
+returns-5 c = 
+    let letter = sym (c .before .before .before .engine-of .ensures) ∙ c .before .enum-told .given .1 in
+    rw (eq-eqb _ _ (c .before .before .before .before .before .before .before .before .if1 .left), eq-eqb _ _ (c .before .before .before .before .before .before .before .if2 .left), letter, c .number5 .ensures)
 
 pub mileage-write-log-spec : {M : Type 1} → statement M
 mileage-write-log-spec =
@@ -83,18 +95,20 @@ mileage-write-log-spec =
     (tie.spec
     number-requires
     returns
-    log-narrow-requires
     number-requires-2
     returns-2
+    log-narrow-requires
+    number-requires-3
+    returns-3
     shared-slice-read-engine-of
     cast-engine-of
     engine-of-requires
     enum-known-e
     log-of-requires
     write-log-requires
-    number-requires-3
-    enum-told
     number-requires-4
+    enum-told
+    number-requires-5
     same-length
-    returns-3
-    returns-4)
+    returns-4
+    returns-5)

@@ -1,88 +1,80 @@
+use native.Mathlib.Omega.{arith}
+use lib.ListN.{length-set}
+use Rattle.mileage.proofs.Calls.{stored}
+use Rattle.codec.specs.Logs.{logNumbers}
 use borrow.Author.Needs.{needs}
 use Rattle.mileage.proofs.fields.put_log.Statement.{statement}
 use Rattle.mileage.proofs.fields.put_log.Tie as tie
-use Rattle.mileage.proofs.fields.put_log.Reads as reads
-use Rattle.mileage.proofs.fields.put_log.Lts as lts
-use Rattle.codec.proofs.codes.code_of.Reads as code-of-reads
-use Rattle.codec.proofs.codes.letter_of.Reads as letter-of-reads
-use Rattle.mileage.proofs.fields.wide16.Reads as wide16-reads
-use Rattle.mileage.proofs.fields.wide8.Reads as wide8-reads
 
--- src/fields.rt:55:18
 letter-of-requires : tie.Need-letter-of-requires
 letter-of-requires c κs = search needs
 
--- src/fields.rt:55:12
 wide8-requires : tie.Need-wide8-requires
 wide8-requires c κs = search needs
 
--- src/fields.rt:55:5
 slice-write-f : tie.Need-slice-write-f
 slice-write-f c = search needs
 
--- src/fields.rt:56:12
 wide8-requires-2 : tie.Need-wide8-requires-2
 wide8-requires-2 c κs = search needs
 
--- src/fields.rt:56:5
 slice-write-f-2 : tie.Need-slice-write-f-2
 slice-write-f-2 c = search needs
 
--- src/fields.rt:57:12
 wide8-requires-3 : tie.Need-wide8-requires-3
 wide8-requires-3 c κs = search needs
 
--- src/fields.rt:57:5
 slice-write-f-3 : tie.Need-slice-write-f-3
 slice-write-f-3 c = search needs
 
--- src/fields.rt:58:12
 wide16-requires : tie.Need-wide16-requires
 wide16-requires c κs = search needs
 
--- src/fields.rt:58:5
 slice-write-f-4 : tie.Need-slice-write-f-4
 slice-write-f-4 c = search needs
 
--- src/fields.rt:59:12
 wide16-requires-2 : tie.Need-wide16-requires-2
 wide16-requires-2 c κs = search needs
 
--- src/fields.rt:59:5
 slice-write-f-5 : tie.Need-slice-write-f-5
-slice-write-f-5 c = ?
+slice-write-f-5 c = simp length-set (omega arith)
 
--- src/fields.rt:60:12
 code-of-requires : tie.Need-code-of-requires
 code-of-requires c κs = search needs
 
--- src/fields.rt:60:5
 slice-write-f-6 : tie.Need-slice-write-f-6
-slice-write-f-6 c = ?
+slice-write-f-6 c = simp length-set (omega arith)
 
--- src/fields.rt:61:12
 code-of-requires-2 : tie.Need-code-of-requires-2
 code-of-requires-2 c κs = search needs
 
--- src/fields.rt:61:5
 slice-write-f-7 : tie.Need-slice-write-f-7
-slice-write-f-7 c = ?
+slice-write-f-7 c = simp length-set (omega arith)
 
--- src/fields.rt:62:12
 code-of-requires-3 : tie.Need-code-of-requires-3
 code-of-requires-3 c κs = search needs
 
--- src/fields.rt:62:5
 slice-write-f-8 : tie.Need-slice-write-f-8
-slice-write-f-8 c = ?
+slice-write-f-8 c = simp length-set (omega arith)
 
--- src/fields.rt:45:1
 same-length : tie.Need-same-length
-same-length c = ?
+same-length c = simp length-set
 
--- src/fields.rt:45:1
 returns : tie.Need-returns
-returns c = ?
+returns c = 
+    let start = c .before .before .before .before .before .before .before .before .before .before .before .before in
+    rw (
+      c .code-of3 .ensures,
+      c .before .code-of2 .ensures,
+      c .before .before .code-of .ensures,
+      c .before .before .before .wide162 .ensures,
+      c .before .before .before .before .wide16 .ensures,
+      c .before .before .before .before .before .wide83 .ensures,
+      c .before .before .before .before .before .before .wide82 .ensures,
+      c .before .before .before .before .before .before .before .wide8 .ensures,
+      c .before .before .before .before .before .before .before .before .letter-of .ensures,
+    )
+    (stored (start .args .f .now) (logNumbers (start .args .log)) (start .pre))
 
 pub put-log-spec : {M : Type 1} → statement M
 put-log-spec =
