@@ -20,15 +20,16 @@ use Rattle.contents.specs.declared.Image.{Image}
 use Rattle.contents.proofs.Facts.{Known, TallyFacts, ImageFacts, image-facts, known-place}
 use Rattle.codec.specs.Codes.{engineOf}
 use Rattle.codec.specs.Formats.{withZero}
-use Rattle.codec.specs.Images.{cellOf, cellCode, tallyWidths, tallySize, tallyNumbers, tallyOf, tallyFields}
-use Rattle.codec.specs.Images.{imageWidths, imageNumbers, imageOf, withTallies, letterRead, parseImage, imageFormat, imageBytes}
+use Rattle.codec.specs.Images.{cellOf, cellCode, tallyWidths, tallyNumbers, tallyOf, tallyFields}
+use Rattle.codec.specs.Images.{imageWidths, imageNumbers, imageOf, withTallies, letterRead, parseImage, imageFormat, imageBytes, readImage, writeImage}
 use Rattle.codec.specs.Logs.{logWidths, zeroPlace, logNumbers, logOf}
-use Rattle.codec.specs.Numbers.{packInto}
+use Rattle.codec.specs.Numbers.{total, packInto}
+use Rattle.codec.specs.RoundTrip.{RoundTrip}
 use Rattle.codec.specs.declared.EngineRead.{EngineRead}
 use Rattle.codec.specs.declared.EngineRead.the-variants.{Is, Unknown}
 use Rattle.codec.proofs.Letters.{apart, engine-letter, code-estimate, estimate-code, code-fits}
 use Rattle.codec.proofs.LogFormat as log
-use Rattle.codec.proofs.RoundTrips.{Lawful}
+use Rattle.codec.proofs.RoundTrips.{Lawful, round-trip}
 use Rattle.codec.proofs.Rows.{Fit, fit-append, packInto-append, packInto-eq}
 
 length-tally : (t : Tally) → length (t .cells) ≡ senders → length (tallyNumbers t) ≡ length tallyWidths
@@ -37,8 +38,8 @@ length-tally t e = ap suc (length-map (t .cells) cellCode ∙ e)
 -- a log and two tallies stored one after the other, from the front to the end, are an image's bytes
 pub image-stored : (bs : List ℕ) (i : Image) → length (i .checks .cells) ≡ senders → length (i .seconds .cells) ≡ senders → length bs ≡ imageSize today
     → packInto
-        (packInto (packInto bs 0 (logWidths today) (withZero zeroPlace (logNumbers (recordOf i)))) (logSize today) tallyWidths (tallyNumbers (i .checks)))
-        (logSize today + tallySize) tallyWidths (tallyNumbers (i .seconds))
+    (packInto (packInto bs 0 (logWidths today) (withZero zeroPlace (logNumbers (recordOf i)))) (logSize today) tallyWidths (tallyNumbers (i .checks)))
+    (logSize today + total tallyWidths) tallyWidths (tallyNumbers (i .seconds))
     ≡ imageBytes today i
 unfolding imageBytes
 image-stored bs i c s size =
@@ -116,8 +117,8 @@ module _ (l : Limits) (sane : Sane l) where
       rw (engine-letter g)
       (ap (λ r. some (withTallies r (tallyOf (take tallyFields (c ++ s))) (tallyOf (drop tallyFields (c ++ s))))) (log.of-numbers l sane (recordOf i) (f .log))
       ∙ ap₂ (λ x y. some (withTallies (recordOf i) x y))
-          (ap tallyOf (take-at c s tallyFields len) ∙ tally-back false g (i .settings .n) (i .checks) (f .checks) (t .0))
-          (ap tallyOf (drop-at c s tallyFields len) ∙ tally-back (isB g) g (i .settings .n) (i .seconds) (f .seconds) (t .1)))
+      (ap tallyOf (take-at c s tallyFields len) ∙ tally-back false g (i .settings .n) (i .checks) (f .checks) (t .0))
+      (ap tallyOf (drop-at c s tallyFields len) ∙ tally-back (isB g) g (i .settings .n) (i .seconds) (f .seconds) (t .1)))
 
   fits : (i : Image) → TypedImage i → imageOk l i ≡ true → Fit (imageWidths l) (withZero zeroPlace (imageNumbers i))
   fits i t ok =
@@ -148,3 +149,7 @@ module _ (l : Limits) (sane : Sane l) where
           → letterRead o vs ≡ some i → imageNumbers i ≡ vs
       back vs i len (Is e) p h = let same : imageOf e vs ≡ i = cc in rw (← same) (numbers-image e vs len p)
       back vs i len Unknown p h = apart cc
+
+  pub image-round-trip : RoundTrip TypedImage (imageOk l) (imageSize l) (readImage l) (writeImage l)
+  unfolding readImage writeImage
+  image-round-trip = round-trip (imageFormat l) TypedImage lawful (λ bs. bs)

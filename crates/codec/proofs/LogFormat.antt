@@ -6,7 +6,7 @@ use mathlib.Core.List.{List, [], _∷_}
 use mathlib.Core.Option.{Option, none, some}
 use native.Mathlib.Omega.{arith}
 use lib.ListN.{length, getD}
-use Rattle.tally.specs.Limits.{Limits, logFields}
+use Rattle.tally.specs.Limits.{Limits, logSize, logFields}
 use Rattle.tally.specs.declared.Engine.{Engine}
 use Rattle.tally.proofs.Bounds.{Sane, entry-fits, units-fit, everyone-fits}
 use Rattle.contents.specs.Logs.{logOk}
@@ -14,11 +14,12 @@ use Rattle.contents.specs.declared.Log.{Log}
 use Rattle.contents.proofs.Facts.{LogFacts, log-facts, known-or-blank, known-second}
 use Rattle.codec.specs.Codes.{letterOf, engineOf, codeOf, estimateOf}
 use Rattle.codec.specs.Formats.{Format, withZero}
-use Rattle.codec.specs.Logs.{logWidths, zeroPlace, logNumbers, logOf, letterRead, parseLog, logFormat}
+use Rattle.codec.specs.Logs.{logWidths, zeroPlace, logNumbers, logOf, letterRead, parseLog, logFormat, readLog, writeLog}
+use Rattle.codec.specs.RoundTrip.{RoundTrip}
 use Rattle.codec.specs.declared.EngineRead.{EngineRead}
 use Rattle.codec.specs.declared.EngineRead.the-variants.{Is, Unknown}
 use Rattle.codec.proofs.Letters.{apart, engine-letter, letter-fits, letter-engine, code-estimate, estimate-code, code-fits, listed}
-use Rattle.codec.proofs.RoundTrips.{Lawful}
+use Rattle.codec.proofs.RoundTrips.{Lawful, round-trip}
 use Rattle.codec.proofs.Rows.{Fit}
 
 -- the numbers of a log that was made of eight numbers
@@ -45,11 +46,31 @@ module _ (l : Limits) (sane : Sane l) where
       let unit : r .settings .unit < 256 ^ 1 = omega (arith, n .below, n .n-high, units-fit, everyone-fits) in
       let units : r .settings .n < 256 ^ 1 = omega (arith, n .n-high, units-fit, everyone-fits) in
       let entry : r .settings .entry < 256 ^ 2 = omega (arith, n .entry-high, entry-fits) in
-      let round : r .state .round < 256 ^ l .roundWidth = omega (arith, s .round, sane .round-fits) in
-      (letter-fits (r .settings .engine), (units, (unit, (omega arith, (entry, (round,
-        (code-fits l sane (r .state .proposal) (known-or-blank l (r .state .proposal) (s .proposal)),
-        (code-fits l sane (r .state .first) (known-or-blank l (r .state .first) (s .first)),
-        (code-fits l sane (r .state .second) (known-second l (r .settings .engine) (r .state .second) (s .second)), tt)))))))))
+      let round : r .state .round < 256 ^ l .roundWidth = omega (arith, s .round, sane .round-fits) in (
+        letter-fits (r .settings .engine),
+        (
+          units,
+          (
+            unit,
+            (
+              omega arith,
+              (
+                entry,
+                (
+                  round,
+                  (
+                    code-fits l sane (r .state .proposal) (known-or-blank l (r .state .proposal) (s .proposal)),
+                    (
+                      code-fits l sane (r .state .first) (known-or-blank l (r .state .first) (s .first)),
+                      (code-fits l sane (r .state .second) (known-second l (r .settings .engine) (r .state .second) (s .second)), tt),
+                    ),
+                  ),
+                ),
+              ),
+            ),
+          ),
+        ),
+      )
 
   pub lawful : Lawful (logFormat l) (λ r. Unit)
   unfolding logOk
@@ -69,3 +90,7 @@ module _ (l : Limits) (sane : Sane l) where
       back : (vs : List ℕ) (r : Log) → length vs ≡ logFields → (o : EngineRead) → engineOf (getD vs 0 0) ≡ o → letterRead o vs ≡ some r → logNumbers r ≡ vs
       back vs r len (Is e) p h = let same : logOf e vs ≡ r = cc in rw (← same) (numbers-of e vs len p)
       back vs r len Unknown p h = apart cc
+
+  pub log-round-trip : RoundTrip (λ r. Unit) (logOk l) (logSize l) (readLog l) (writeLog l)
+  unfolding readLog writeLog
+  log-round-trip = round-trip (logFormat l) (λ r. Unit) lawful (λ bs. bs)

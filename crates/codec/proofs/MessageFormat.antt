@@ -6,7 +6,7 @@ use mathlib.Core.List.{List, [], _∷_}
 use mathlib.Core.Option.{Option, none, some}
 use native.Mathlib.Omega.{arith}
 use lib.ListN.{length, getD}
-use Rattle.tally.specs.Limits.{Limits, messageFields}
+use Rattle.tally.specs.Limits.{Limits, messageSize, messageFields}
 use Rattle.tally.proofs.Bounds.{Sane, entry-fits, units-fit, everyone-fits}
 use Rattle.contents.specs.Messages.{kindOk, messageOk}
 use Rattle.contents.specs.declared.Kind.{Kind}
@@ -16,13 +16,14 @@ use Rattle.contents.proofs.Facts.{MessageFacts, message-facts}
 use Rattle.contents.proofs.Tests.{never}
 use Rattle.codec.specs.Codes.{letterOf, engineOf, kindLetter, kindOf, codeOf, estimateOf}
 use Rattle.codec.specs.Formats.{Format, withZero}
-use Rattle.codec.specs.Messages.{messageWidths, zeroPlace, messageNumbers, messageOf, lettersRead, parseMessage, messageFormat}
+use Rattle.codec.specs.Messages.{messageWidths, zeroPlace, messageNumbers, messageOf, lettersRead, parseMessage, cleared, messageFormat, readMessage, writeMessage}
+use Rattle.codec.specs.RoundTrip.{RoundTrip}
 use Rattle.codec.specs.declared.EngineRead.{EngineRead}
 use Rattle.codec.specs.declared.EngineRead.the-variants.{Is, Unknown}
 use Rattle.codec.specs.declared.KindRead.{KindRead}
 use Rattle.codec.specs.declared.KindRead.the-variants.{Is as KindIs, Unknown as KindUnknown}
 use Rattle.codec.proofs.Letters.{apart, engine-letter, letter-fits, letter-engine, kind-letter, kind-fits, letter-kind, code-estimate, estimate-code, code-fits, listed}
-use Rattle.codec.proofs.RoundTrips.{Lawful}
+use Rattle.codec.proofs.RoundTrips.{Lawful, round-trip}
 use Rattle.codec.proofs.Rows.{Fit}
 
 -- no well-formed message is empty
@@ -40,9 +41,31 @@ module _ (l : Limits) (sane : Sane l) where
       let sender : m .sender < 256 ^ 1 = omega (arith, n .below, n .n-high, units-fit, everyone-fits) in
       let receiver : m .receiver < 256 ^ 1 = omega (arith, k .receiver, everyone-fits) in
       let entry : m .entry < 256 ^ 2 = omega (arith, n .entry-high, entry-fits) in
-      let round : m .round < 256 ^ l .roundWidth = omega (arith, f .round, sane .round-fits) in
-      (kind-fits (m .kind), (letter-fits (m .engine), (units, (sender, (receiver, (omega arith, (entry, (round,
-        (code-fits l sane (m .estimate) (k .estimate), (code-fits l sane (m .proposal) (k .proposal), tt))))))))))
+      let round : m .round < 256 ^ l .roundWidth = omega (arith, f .round, sane .round-fits) in (
+        kind-fits (m .kind),
+        (
+          letter-fits (m .engine),
+          (
+            units,
+            (
+              sender,
+              (
+                receiver,
+                (
+                  omega arith,
+                  (
+                    entry,
+                    (
+                      round,
+                      (code-fits l sane (m .estimate) (k .estimate), (code-fits l sane (m .proposal) (k .proposal), tt)),
+                    ),
+                  ),
+                ),
+              ),
+            ),
+          ),
+        ),
+      )
 
   pub lawful : Lawful (messageFormat l) (λ m. Unit)
   unfolding messageOk
@@ -78,3 +101,7 @@ module _ (l : Limits) (sane : Sane l) where
           (listed messageFields vs len))
       back vs m len (KindIs k) Unknown p q h = apart cc
       back vs m len KindUnknown o p q h = apart cc
+
+  pub message-round-trip : RoundTrip (λ m. Unit) (messageOk l) (messageSize l) (readMessage l) (writeMessage l)
+  unfolding readMessage writeMessage
+  message-round-trip = round-trip (messageFormat l) (λ m. Unit) lawful (cleared l)

@@ -1,4 +1,4 @@
--- Both round trips, for any format whose fields obey the laws of `Lawful`. Assumes nothing.
+-- Both round trips, of any format whose fields obey the laws of `Lawful`. Assumes nothing.
 use Prim.Native.Nat.{ℕ, zero, suc, _+_, _≤_, _<_}
 use mathlib.Core.Path.{_≡_, refl, sym, ap, _∙_}
 use mathlib.Core.Bool.{Bool, true, false, cond, false≢true}
@@ -10,8 +10,9 @@ use lib.ListN.{length, getD, take, drop, length-append, length-drop, take-append
 use lib.Seq.{take-at, drop-at, getD-at, split-at, append-snoc, length-take-le}
 use borrow.Author.Tests.{eq-eqb, ne-eqb, eqb-true}
 use Rattle.codec.specs.Formats.{Reading, reading, Wrote, wrote, Format, withZero, without, checked, fromNumbers, fromRow, readBytes, toBytes, writeBytes}
-use Rattle.codec.specs.Numbers.{total, unpack, pack}
-use Rattle.codec.proofs.Rows.{Fit, Bytes, length-pack, length-unpack, unpack-pack, pack-unpack}
+use Rattle.codec.specs.Numbers.{Bytes, total, unpack, pack}
+use Rattle.codec.specs.RoundTrip.{RoundTrip}
+use Rattle.codec.proofs.Rows.{Fit, length-pack, length-unpack, unpack-pack, pack-unpack}
 
 -- ---- the zero byte
 
@@ -135,22 +136,10 @@ module _ {A : Type 0} (f : Format A) (Typed : A → Type 0) (law : Lawful f Type
       bad : f .ok (f .nothing) ≡ true → ⊥
       bad ok = false≢true (sym (law .unread) ∙ ok)
 
-  -- ---- the same of the calls
-
-  -- what is written is read back the same
-  pub write-read : (a : A) (kept bs cs : List ℕ) → Typed a → writeBytes f a kept bs ≡ wrote 0 cs → readBytes f cs ≡ reading 0 a
-  write-read a kept bs cs t e = go (eqb (length bs) (f .size)) e
-    where
-      go : (u : Bool) → cond u (cond (f .ok a) (wrote 0 (toBytes f a)) (wrote (f .malformed) kept)) (wrote 1 kept) ≡ wrote 0 cs → readBytes f cs ≡ reading 0 a
-      go false e = let one : _≡_ {A = ℕ} 1 0 = ap (λ (w : Wrote). w .number) e in absurd (omega arith)
-      go true e = by (f .ok a) refl e
-        where
-          by : (u : Bool) → f .ok a ≡ u → cond u (wrote 0 (toBytes f a)) (wrote (f .malformed) kept) ≡ wrote 0 cs → readBytes f cs ≡ reading 0 a
-          by false ok e = absurd (law .refuses (ap (λ (w : Wrote). w .number) e))
-          by true ok e = let same : toBytes f a ≡ cs = ap (λ (w : Wrote). w .out) e in rw (← same) (read-written a t ok)
-
-  -- whatever is read is written back to the same bytes, in any buffer of the right length
-  pub read-write : (bs : List ℕ) (a : A) → Bytes bs → readBytes f bs ≡ reading 0 a → (kept out : List ℕ) → length out ≡ f .size → writeBytes f a kept out ≡ wrote 0 bs
-  read-write bs a b e kept out size =
-      let g = written-read bs a b e in
-      rw (eq-eqb (length out) (f .size) size, g .0) (ap (wrote 0) (g .1))
+  -- both, of the calls; `kept` is what a refused write leaves
+  pub round-trip : (kept : List ℕ → List ℕ) → RoundTrip Typed (f .ok) (f .size) (readBytes f) (λ a bs. writeBytes f a (kept bs) bs)
+  round-trip kept =
+      record {
+        back = λ a bs t ok size. rw (eq-eqb (length bs) (f .size) size, ok) (refl, read-written a t ok);
+        same = λ bs a b e out size. let g = written-read bs a b e in rw (eq-eqb (length out) (f .size) size, g .0) (ap (wrote 0) (g .1));
+      }

@@ -7,7 +7,7 @@ use native.Mathlib.Numerals.{add-one}
 use native.Mathlib.Omega.{arith}
 use lib.ListN.{length, getD, take, drop, length-append, length-take, length-drop, take-append-drop, drop-of-length-le, replicate}
 use lib.Seq.{sets, sets-eq, take-at, getD-at, getD-drop, take-suc, take-all, drop-drop, length-take-le, length-sets, drop-cons}
-use Rattle.codec.specs.Numbers.{numAt, bytesOf, total, unpack, pack, packInto}
+use Rattle.codec.specs.Numbers.{numAt, bytesOf, Bytes, total, unpack, pack, packInto}
 
 -- each number fits its width, and there is one for each
 abbrev pub Fit : List ℕ → List ℕ → Type 0
@@ -15,10 +15,6 @@ Fit [] [] = Unit
 Fit [] (v ∷ vs) = ⊥
 Fit (w ∷ ws) [] = ⊥
 Fit (w ∷ ws) (v ∷ vs) = (v < 256 ^ w) × Fit ws vs
-
--- the elements are bytes
-abbrev pub Bytes : List ℕ → Type 0
-Bytes bs = (i : ℕ) → getD bs i 0 < 256
 
 pub length-bytesOf : (k x : ℕ) → length (bytesOf k x) ≡ k
 unfolding bytesOf

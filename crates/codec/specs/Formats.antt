@@ -5,6 +5,8 @@ use mathlib.Core.List.{List, [], _∷_, _++_}
 use mathlib.Core.Option.{Option, none, some}
 use lib.Dec.{eqb}
 use lib.ListN.{length, getD, take, drop}
+use Rattle.tally.specs.Refusal.{numberOf}
+use Rattle.tally.specs.declared.Refusal.the-variants.{Length}
 use Rattle.codec.specs.Numbers.{unpack, pack}
 
 -- what reading answers: the refusal's number or 0, and the contents
@@ -62,7 +64,7 @@ fromRow f vs = cond (eqb (getD vs (f .zeroAt) 0) 0) (fromNumbers f (without (f .
 
 -- reading the bytes bs: 1 where their length is wrong
 abbrev pub readBytes : {A : Type 0} → Format A → List ℕ → Reading A
-readBytes f bs = cond (eqb (length bs) (f .size)) (fromRow f (unpack 0 (f .widths) bs)) (reading 1 (f .nothing))
+readBytes f bs = cond (eqb (length bs) (f .size)) (fromRow f (unpack 0 (f .widths) bs)) (reading (numberOf Length) (f .nothing))
 
 -- the bytes of contents
 abbrev pub toBytes : {A : Type 0} → Format A → A → List ℕ
@@ -71,4 +73,4 @@ toBytes f a = pack (f .widths) (withZero (f .zeroAt) (f .numbers a))
 -- writing a to a buffer that holds bs: refused as reading would, and then `kept` stands there
 abbrev pub writeBytes : {A : Type 0} → Format A → A → List ℕ → List ℕ → Wrote
 writeBytes f a kept bs =
-    cond (eqb (length bs) (f .size)) (cond (f .ok a) (wrote 0 (toBytes f a)) (wrote (f .malformed) kept)) (wrote 1 kept)
+    cond (eqb (length bs) (f .size)) (cond (f .ok a) (wrote 0 (toBytes f a)) (wrote (f .malformed) kept)) (wrote (numberOf Length) kept)

@@ -16,7 +16,6 @@ use Rattle.contents.specs.declared.Log.{Log}
 use Rattle.codec.specs.Codes.{engineOf, codeOf, estimateOf}
 use Rattle.codec.specs.Formats.{Reading, reading, Wrote, Format, readBytes, toBytes, writeBytes}
 use Rattle.codec.specs.Logs.{logWidths, zeroPlace, logNumbers, logOf, noLog}
-use Rattle.codec.specs.Numbers.{total}
 use Rattle.codec.specs.declared.EngineRead.{EngineRead}
 use Rattle.codec.specs.declared.EngineRead.the-variants.{Is, Unknown}
 use Rattle.codec.specs.declared.ImageRead.{ImageRead}
@@ -27,12 +26,13 @@ cellOf x = record { estimate = estimateOf x }
 abbrev pub cellCode : Cell → ℕ
 cellCode c = codeOf (c .estimate)
 
--- marks (2) and sixteen estimates (4 each)
-abbrev pub tallyWidths : List ℕ
-tallyWidths = 2 ∷ replicate senders 4
+-- sixteen estimates (4 each)
+abbrev pub cellWidths : List ℕ
+cellWidths = replicate senders 4
 
-abbrev pub tallySize : ℕ
-tallySize = total tallyWidths
+-- marks (2) and the estimates
+abbrev pub tallyWidths : List ℕ
+tallyWidths = 2 ∷ cellWidths
 
 abbrev pub tallyNumbers : Tally → List ℕ
 tallyNumbers t = t .marks ∷ map cellCode (t .cells)

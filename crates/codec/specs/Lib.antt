@@ -1,5 +1,6 @@
 pub mod Numbers
 pub mod Formats
+pub mod RoundTrip
 pub mod Codes
 pub mod Logs
 pub mod Messages

@@ -101,4 +101,4 @@ unfoldable pub writeMessage : Limits → Message → List ℕ → Wrote
 writeMessage l m bs = writeBytes (messageFormat l) m (cleared l bs) bs
 
 unfoldable pub writeEmpty : Limits → List ℕ → Wrote
-writeEmpty l bs = cond (eqb (length bs) (messageSize l)) (wrote 0 (emptyBytes l)) (wrote 1 bs)
+writeEmpty l bs = cond (eqb (length bs) (messageSize l)) (wrote 0 (emptyBytes l)) (wrote (numberOf Refusal.Length) bs)

@@ -1,5 +1,5 @@
 -- Numbers in bytes, the highest byte first, and rows of them, over the widths. Assumes nothing.
-use Prim.Native.Nat.{ℕ, zero, suc, _+_, _*_, _/_, _%_}
+use Prim.Native.Nat.{ℕ, zero, suc, _+_, _*_, _/_, _%_, _<_}
 use mathlib.Core.List.{List, [], _∷_, _++_}
 use lib.ListN.{getD}
 use lib.Seq.{sets}
@@ -13,6 +13,10 @@ numAt bs o (suc k) = numAt bs o k * 256 + getD bs (o + k) 0
 unfoldable pub bytesOf : ℕ → ℕ → List ℕ
 bytesOf zero x = []
 bytesOf (suc k) x = bytesOf k (x / 256) ++ (x % 256 ∷ [])
+
+-- the elements are bytes
+abbrev pub Bytes : List ℕ → Type 0
+Bytes bs = (i : ℕ) → getD bs i 0 < 256
 
 -- how many bytes a row of numbers takes, from their widths
 abbrev pub total : List ℕ → ℕ

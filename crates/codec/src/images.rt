@@ -18,35 +18,33 @@ ghost use mathlib.Core.Path.{_≡_};
 ghost use mathlib.Core.List.{map};
 ghost use mathlib.Core.Option.{Option, some, none};
 ghost use Prim.Native.Nat.{_+_, _≤_};
-ghost use lib.ListN.{length, replicate};
+ghost use lib.ListN.{length};
 ghost use Rattle.tally.specs.Limits.{today, imageSize, senders};
 ghost use Rattle.tally.specs.Refusal.{numberOf};
-ghost use Rattle.codec.specs.Numbers.{unpack, packInto};
+ghost use Rattle.codec.specs.Numbers.{total, unpack, packInto};
 ghost use Rattle.codec.specs.Formats.{without, wrote, checked};
 ghost use Rattle.codec.specs.Logs.{zeroPlace};
-ghost use Rattle.codec.specs.Images.{cellOf, cellCode, tallyWidths, tallySize, tallyOf, tallyNumbers, noImage};
+ghost use Rattle.codec.specs.Images.{cellOf, cellCode, cellWidths, tallyWidths, tallyOf, tallyNumbers, noImage};
 ghost use Rattle.codec.specs.Images.{imageWidths, imageOf, imageFormat, imageBytes, imageReading, readImage, writeImage};
 
 // Where the tallies stand, and where a tally's estimates do.
-const CELLS: usize = 2;
-
-const TALLY_SIZE: usize = CELLS + 64;
-
 const AT_CHECKS: usize = limits::LOG_SIZE;
 
-const AT_SECONDS: usize = AT_CHECKS + TALLY_SIZE;
+const AT_CELLS: usize = 2;
 
-fn cells_at(s: &[u8], at: usize) -> [Cell; 16]
-    requires { ⌜ at + 64 ≤ length (now s) ⌝ }
-    ensures { λ r. ⌜ r ≡ map cellOf (unpack at (replicate senders 4) (now (s .entry))) ⌝ }
+const AT_SECONDS: usize = AT_CHECKS + AT_CELLS + 4 * limits::SENDERS;
+
+fn cells_at(s: &[u8], at: usize) -> [Cell; limits::SENDERS]
+    requires { ⌜ at + total cellWidths ≤ length (now s) ⌝ }
+    ensures { λ r. ⌜ r ≡ map cellOf (unpack at cellWidths (now (s .entry))) ⌝ }
 {
     let blank = Cell {
         estimate: Estimate::Blank,
     };
-    let mut cells = [blank; 16];
+    let mut cells = [blank; limits::SENDERS];
     let mut from = at;
     let mut k = 0;
-    while k < 16 {
+    while k < limits::SENDERS {
         let estimate = codes::estimate_of(numbers::be32(s, from));
         cells[k] = Cell { estimate };
         from += 4;
@@ -56,22 +54,22 @@ fn cells_at(s: &[u8], at: usize) -> [Cell; 16]
 }
 
 fn tally_at(s: &[u8], at: usize) -> Tally
-    requires { ⌜ at + tallySize ≤ length (now s) ⌝ }
+    requires { ⌜ at + total tallyWidths ≤ length (now s) ⌝ }
     ensures { λ r. ⌜ r ≡ tallyOf (unpack at tallyWidths (now (s .entry))) ⌝ }
 {
     Tally {
         marks: numbers::be16(s, at),
-        cells: cells_at(s, at + CELLS),
+        cells: cells_at(s, at + AT_CELLS),
     }
 }
 
-fn put_cells(cells: [Cell; 16], out: &mut [u8], at: usize)
-    requires { ⌜ at + 64 ≤ length (now out) ⌝ }
-    ensures { λ _. ⌜ (now (out .exit) ≡ packInto (now (out .entry)) at (replicate senders 4) (map cellCode cells)) × (length cells ≡ senders) ⌝ }
+fn put_cells(cells: [Cell; limits::SENDERS], out: &mut [u8], at: usize)
+    requires { ⌜ at + total cellWidths ≤ length (now out) ⌝ }
+    ensures { λ _. ⌜ (now (out .exit) ≡ packInto (now (out .entry)) at cellWidths (map cellCode cells)) × (length cells ≡ senders) ⌝ }
 {
     let mut from = at;
     let mut k = 0;
-    while k < 16 {
+    while k < limits::SENDERS {
         let c = cells[k];
         let e = c.estimate;
         numbers::put32(out, from, codes::code_of(e));
@@ -81,12 +79,12 @@ fn put_cells(cells: [Cell; 16], out: &mut [u8], at: usize)
 }
 
 fn put_tally(t: Tally, out: &mut [u8], at: usize)
-    requires { ⌜ at + tallySize ≤ length (now out) ⌝ }
+    requires { ⌜ at + total tallyWidths ≤ length (now out) ⌝ }
     ensures { λ _. ⌜ (now (out .exit) ≡ packInto (now (out .entry)) at tallyWidths (tallyNumbers t)) × (length (t .cells) ≡ senders) ⌝ }
 {
     numbers::put16(out, at, t.marks);
     let cells = t.cells;
-    put_cells(cells, out, at + CELLS);
+    put_cells(cells, out, at + AT_CELLS);
 }
 
 fn image_at(engine: Engine, s: &[u8]) -> Image

@@ -4,6 +4,7 @@ pub mod images;
 pub mod logs;
 pub mod messages;
 mod numbers;
+
 use contents::Image;
 use contents::Kind;
 use contents::Log;

@@ -100,7 +100,14 @@ pub(crate) fn put_log(log: Log, out: &mut [u8])
     let proposal = state.proposal;
     let first = state.first;
     let second = state.second;
-    numbers::put_four(out, 0, codes::letter_of(engine), settings.n, settings.unit, 0);
+    numbers::put_four(
+        out,
+        0,
+        codes::letter_of(engine),
+        settings.n,
+        settings.unit,
+        0,
+    );
     numbers::put_times(out, AT_ENTRY, settings.entry, state.round);
     put_three(out, AT_PROPOSAL, proposal, first, second);
 }

@@ -79,7 +79,11 @@ pub fn read_message(s: &[u8]) -> MessageRead
     if numbers::be8(s, 5) != 0 {
         return MessageRead::Refused(Refusal::Message);
     }
-    message_from(codes::kind_of(numbers::be8(s, 0)), codes::engine_of(numbers::be8(s, 1)), s)
+    message_from(
+        codes::kind_of(numbers::be8(s, 0)),
+        codes::engine_of(numbers::be8(s, 1)),
+        s,
+    )
 }
 
 fn put_message(m: Message, out: &mut [u8])
@@ -90,7 +94,14 @@ fn put_message(m: Message, out: &mut [u8])
     let engine = m.engine;
     let estimate = m.estimate;
     let proposal = m.proposal;
-    numbers::put_four(out, 0, codes::kind_letter(kind), codes::letter_of(engine), m.n, m.sender);
+    numbers::put_four(
+        out,
+        0,
+        codes::kind_letter(kind),
+        codes::letter_of(engine),
+        m.n,
+        m.sender,
+    );
     numbers::put8(out, 4, m.receiver);
     numbers::put8(out, 5, 0);
     numbers::put_times(out, AT_ENTRY, m.entry, m.round);

@@ -11,9 +11,15 @@ use lib.Seq.{sets, sets-eq}
 use borrow.Author.Tests.{eq-eqb, ne-eqb, eqb-true, eqb-false}
 use Rattle.contents.proofs.Tests.{and-true}
 use Rattle.codec.specs.Formats.{Reading, reading, Wrote, wrote, Format, checked, fromNumbers, readBytes, toBytes, writeBytes}
+use Rattle.codec.specs.Numbers.{Bytes}
 use Rattle.codec.proofs.RoundTrips.{Lawful, from-numbers, numbers-back, read-written, written-read}
-use Rattle.codec.proofs.Rows.{Bytes}
-use Rattle.mileage.specs.Fields.{putNumbers, putChecked, readCall, writeCall}
+use Rattle.codec.specs.Logs.{logFormat}
+use Rattle.codec.specs.Messages.{messageFormat, cleared}
+use Rattle.codec.proofs.LogFormat as log
+use Rattle.codec.proofs.MessageFormat as message
+use Rattle.tally.specs.Limits.{Limits, logFields, logSize, messageFields, messageSize}
+use Rattle.tally.proofs.Bounds.{Sane}
+use Rattle.mileage.specs.Fields.{putNumbers, putChecked, readCall, writeCall, FieldTrip, readLogCall, writeLogCall, readMessageCall, writeMessageCall}
 
 -- storing as many numbers as there are leaves these numbers
 pub stored : (fs vs : List ℕ) → length fs ≡ length vs → sets fs 0 vs ≡ vs
@@ -34,50 +40,63 @@ module _ {A : Type 0} (f : Format A) (law : Lawful f (λ a. Unit)) where
   pub put-refused : (kept : List ℕ) → putChecked f (reading (f .malformed) (f .nothing)) kept ≡ wrote (f .malformed) kept
   put-refused kept = rw (ne-eqb (f .malformed) 0 (law .refuses))
 
-  -- a number of 0 says that contents were read
-  accepted : (r : Reading A) (k : ℕ) → r .number ≡ k → r ≡ reading k (r .contents)
-  accepted r k e = rw (← e)
-
-  -- what is written is read back as the same fields
-  pub fields-back : (fs kept bs cs out : List ℕ) → writeCall f fs kept bs ≡ wrote 0 cs → length out ≡ f .fields → readCall f cs out ≡ wrote 0 fs
-  fields-back fs kept bs cs out e len = go (eqb (length fs) (f .fields) && eqb (length bs) (f .size)) refl e
+  -- what is written is read back as the same fields, and what is read is written back to the same bytes
+  pub field-trip : (kept : List ℕ → List ℕ) → FieldTrip (f .fields) (f .size) (readCall f) (λ fs bs. writeCall f fs (kept bs) bs)
+  field-trip kept = record { back = back; same = same }
     where
-      r : Reading A
-      r = fromNumbers f fs
+      accepted : (r : Reading A) → eqb (r .number) 0 ≡ true → r ≡ reading 0 (r .contents)
+      accepted r e = rw (← eqb-true (r .number) 0 e)
 
-      go : (t : Bool) → (eqb (length fs) (f .fields) && eqb (length bs) (f .size)) ≡ t → cond t (putChecked f r kept) (wrote 1 kept) ≡ wrote 0 cs → readCall f cs out ≡ wrote 0 fs
-      go false l e = let one : _≡_ {A = ℕ} 1 0 = ap (λ (w : Wrote). w .number) e in absurd (omega arith)
-      go true l e = by (eqb (r .number) 0) refl e
+      back : (fs bs out : List ℕ) → writeCall f fs (kept bs) bs .number ≡ 0 → length out ≡ f .fields
+          → readCall f (writeCall f fs (kept bs) bs .out) out ≡ wrote 0 fs
+      back fs bs out e len = go (eqb (length fs) (f .fields) && eqb (length bs) (f .size)) refl e
         where
-          by : (t : Bool) → eqb (r .number) 0 ≡ t → cond t (wrote 0 (toBytes f (r .contents))) (wrote (r .number) kept) ≡ wrote 0 cs → readCall f cs out ≡ wrote 0 fs
-          by false n e = absurd (eqb-false (r .number) 0 n (ap (λ (w : Wrote). w .number) e))
-          by true n e =
-              let many = eqb-true (length fs) (f .fields) (and-true (eqb (length fs) (f .fields)) (eqb (length bs) (f .size)) l .0) in
-              let g = numbers-back f (λ a. Unit) law fs (r .contents) many (accepted r 0 (eqb-true _ _ n)) in
-              let same : toBytes f (r .contents) ≡ cs = ap (λ (w : Wrote). w .out) e in
-              let back : readBytes f cs ≡ reading 0 (r .contents) = rw (← same) (read-written f (λ a. Unit) law (r .contents) tt (g .0)) in
-              rw (eq-eqb (length out) (f .fields) len, back) (ap (wrote 0) (g .1))
+          r : Reading A
+          r = fromNumbers f fs
 
-  -- what is read is written back to the same bytes
-  pub bytes-back : (bs fs out kept cs : List ℕ) → Bytes bs → readCall f bs fs ≡ wrote 0 out → length cs ≡ f .size → writeCall f out kept cs ≡ wrote 0 bs
-  bytes-back bs fs out kept cs b e len = go (eqb (length fs) (f .fields)) e
-    where
-      r : Reading A
-      r = readBytes f bs
+          go : (t : Bool) → (eqb (length fs) (f .fields) && eqb (length bs) (f .size)) ≡ t → cond t (putChecked f r (kept bs)) (wrote 1 (kept bs)) .number ≡ 0
+              → readCall f (cond t (putChecked f r (kept bs)) (wrote 1 (kept bs)) .out) out ≡ wrote 0 fs
+          go false l e = absurd (omega arith)
+          go true l e = by (eqb (r .number) 0) refl e
+            where
+              by : (t : Bool) → eqb (r .number) 0 ≡ t → cond t (wrote 0 (toBytes f (r .contents))) (wrote (r .number) (kept bs)) .number ≡ 0
+                  → readCall f (cond t (wrote 0 (toBytes f (r .contents))) (wrote (r .number) (kept bs)) .out) out ≡ wrote 0 fs
+              by false n e = absurd (eqb-false (r .number) 0 n e)
+              by true n e =
+                  let many = eqb-true (length fs) (f .fields) (and-true (eqb (length fs) (f .fields)) (eqb (length bs) (f .size)) l .0) in
+                  let g = numbers-back f (λ a. Unit) law fs (r .contents) many (accepted r n) in
+                  rw (eq-eqb (length out) (f .fields) len, read-written f (λ a. Unit) law (r .contents) tt (g .0)) (ap (wrote 0) (g .1))
 
-      go : (t : Bool) → cond t (putNumbers f r fs) (wrote 1 fs) ≡ wrote 0 out → writeCall f out kept cs ≡ wrote 0 bs
-      go false e = let one : _≡_ {A = ℕ} 1 0 = ap (λ (w : Wrote). w .number) e in absurd (omega arith)
-      go true e = by (eqb (r .number) 0) refl e
+      same : (bs fs out : List ℕ) → Bytes bs → readCall f bs fs .number ≡ 0 → length out ≡ f .size
+          → writeCall f (readCall f bs fs .out) (kept out) out ≡ wrote 0 bs
+      same bs fs out b e len = go (eqb (length fs) (f .fields)) e
         where
-          by : (t : Bool) → eqb (r .number) 0 ≡ t → cond t (wrote 0 (f .numbers (r .contents))) (wrote (r .number) fs) ≡ wrote 0 out → writeCall f out kept cs ≡ wrote 0 bs
-          by false n e = absurd (eqb-false (r .number) 0 n (ap (λ (w : Wrote). w .number) e))
-          by true n e =
-              let g = written-read f (λ a. Unit) law bs (r .contents) b (accepted r 0 (eqb-true _ _ n)) in
-              let same : f .numbers (r .contents) ≡ out = ap (λ (w : Wrote). w .out) e in
-              rw (← same)
-              (rw (
-                eq-eqb (length (f .numbers (r .contents))) (f .fields) (law .each (r .contents) tt),
-                eq-eqb (length cs) (f .size) len,
-                from-numbers f (λ a. Unit) law (r .contents) tt (g .0),
-              )
-              (ap (wrote 0) (g .1)))
+          r : Reading A
+          r = readBytes f bs
+
+          go : (t : Bool) → cond t (putNumbers f r fs) (wrote 1 fs) .number ≡ 0
+              → writeCall f (cond t (putNumbers f r fs) (wrote 1 fs) .out) (kept out) out ≡ wrote 0 bs
+          go false e = absurd (omega arith)
+          go true e = by (eqb (r .number) 0) refl e
+            where
+              by : (t : Bool) → eqb (r .number) 0 ≡ t → cond t (wrote 0 (f .numbers (r .contents))) (wrote (r .number) fs) .number ≡ 0
+                  → writeCall f (cond t (wrote 0 (f .numbers (r .contents))) (wrote (r .number) fs) .out) (kept out) out ≡ wrote 0 bs
+              by false n e = absurd (eqb-false (r .number) 0 n e)
+              by true n e =
+                  let g = written-read f (λ a. Unit) law bs (r .contents) b (accepted r n) in
+                  rw (
+                    eq-eqb (length (f .numbers (r .contents))) (f .fields) (law .each (r .contents) tt),
+                    eq-eqb (length out) (f .size) len,
+                    from-numbers f (λ a. Unit) law (r .contents) tt (g .0),
+                  )
+                  (ap (wrote 0) (g .1))
+
+-- of the four calls
+module _ (l : Limits) (sane : Sane l) where
+  pub log-fields : FieldTrip logFields (logSize l) (readLogCall l) (writeLogCall l)
+  unfolding readLogCall writeLogCall
+  log-fields = field-trip (logFormat l) (log.lawful l sane) (λ bs. bs)
+
+  pub message-fields : FieldTrip messageFields (messageSize l) (readMessageCall l) (writeMessageCall l)
+  unfolding readMessageCall writeMessageCall
+  message-fields = field-trip (messageFormat l) (message.lawful l sane) (cleared l)

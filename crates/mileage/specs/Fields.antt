@@ -2,12 +2,16 @@
 use Prim.Native.Nat.{ℕ, suc, _^_}
 use mathlib.Core.Bool.{Bool, true, false, cond, _&&_}
 use mathlib.Core.List.{List, [], _∷_}
+use mathlib.Core.Path.{_≡_}
 use lib.Dec.{eqb, ltb}
 use lib.ListN.{length, getD, take}
 use Rattle.tally.specs.Limits.{Limits, today}
+use Rattle.tally.specs.Refusal.{numberOf}
+use Rattle.tally.specs.declared.Refusal.the-variants.{Length}
 use Rattle.codec.specs.Formats.{Reading, Wrote, wrote, Format, without, fromNumbers, readBytes, toBytes}
 use Rattle.codec.specs.Logs.{logFormat}
 use Rattle.codec.specs.Messages.{messageFormat, cleared}
+use Rattle.codec.specs.Numbers.{Bytes}
 
 -- the numbers of what was read, or the fields as they were
 abbrev pub putNumbers : {A : Type 0} → Format A → Reading A → List ℕ → Wrote
@@ -19,12 +23,12 @@ putChecked f r kept = cond (eqb (r .number) 0) (wrote 0 (toBytes f (r .contents)
 
 -- reading bytes into fields: 1 where a length is wrong
 abbrev pub readCall : {A : Type 0} → Format A → List ℕ → List ℕ → Wrote
-readCall f bs fs = cond (eqb (length fs) (f .fields)) (putNumbers f (readBytes f bs) fs) (wrote 1 fs)
+readCall f bs fs = cond (eqb (length fs) (f .fields)) (putNumbers f (readBytes f bs) fs) (wrote (numberOf Length) fs)
 
 -- writing fields as bytes: 1 where a length is wrong
 abbrev pub writeCall : {A : Type 0} → Format A → List ℕ → List ℕ → List ℕ → Wrote
 writeCall f fs kept bs =
-    cond (eqb (length fs) (f .fields) && eqb (length bs) (f .size)) (putChecked f (fromNumbers f fs) kept) (wrote 1 kept)
+    cond (eqb (length fs) (f .fields) && eqb (length bs) (f .size)) (putChecked f (fromNumbers f fs) kept) (wrote (numberOf Length) kept)
 
 unfoldable pub readLogCall : Limits → List ℕ → List ℕ → Wrote
 readLogCall l bs fs = readCall (logFormat l) bs fs
@@ -39,6 +43,13 @@ readMessageCall l bs fs = readCall (messageFormat l) bs fs
 -- a refused message write leaves an empty message in a buffer of its length
 unfoldable pub writeMessageCall : Limits → List ℕ → List ℕ → Wrote
 writeMessageCall l fs bs = writeCall (messageFormat l) fs (cleared l bs) bs
+
+-- reading into fields and writing of them undo each other
+pub record FieldTrip (fields size : ℕ) (read write : List ℕ → List ℕ → Wrote) : Type 0 where
+  -- what is written is read back as the same fields
+  pub back : (fs bs out : List ℕ) → write fs bs .number ≡ 0 → length out ≡ fields → read (write fs bs .out) out ≡ wrote 0 fs
+  -- whatever is read is written back to the same bytes
+  pub same : (bs fs out : List ℕ) → Bytes bs → read bs fs .number ≡ 0 → length out ≡ size → write (read bs fs .out) out ≡ wrote 0 bs
 
 -- the numbers from place o on fit these many bytes each; what the code tests before it takes them
 abbrev pub narrow : Bool → ℕ → List ℕ → List ℕ → Bool

@@ -1,5 +1,6 @@
 // What a C program links: logs and messages as plain numbers and as bytes.
 mod fields;
+
 use codec::EngineRead;
 use codec::KindRead;
 use codec::LogRead;
@@ -84,9 +85,10 @@ fn write_known(kind: KindRead, engine: EngineRead, fields: &[u32], message: &mut
 {
     match kind {
         KindRead::Is(k) => match engine {
-            EngineRead::Is(e) => tally::number(
-                codec::messages::write_message(fields::message_of(k, e, fields), message),
-            ),
+            EngineRead::Is(e) => tally::number(codec::messages::write_message(
+                fields::message_of(k, e, fields),
+                message,
+            )),
             EngineRead::Unknown => refuse(Refusal::Message, message),
         },
         KindRead::Unknown => refuse(Refusal::Message, message),

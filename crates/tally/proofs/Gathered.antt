@@ -1,7 +1,7 @@
 -- Counting finds what the definitions over the estimates gathered say. Assumes nothing.
-use Prim.Native.Nat.{ℕ, zero, suc, _+_, _≤_, _<_}
+use Prim.Native.Nat.{ℕ, zero, suc, _+_, _-_, _≤_, _<_}
 use mathlib.Core.Path.{_≡_, refl, sym, ap, _∙_}
-use mathlib.Core.Bool.{Bool, true, false, cond, _&&_}
+use mathlib.Core.Bool.{Bool, true, false, cond, not, _&&_}
 use mathlib.Core.List.{List, [], _∷_}
 use native.Mathlib.Omega.{arith}
 use lib.Dec.{eqb, leb, eqb·suc-suc}
@@ -9,8 +9,11 @@ use lib.ListN.{length}
 use borrow.Author.Tests.{eq-eqb, ne-eqb, eqb-true, eqb-false, le-leb, leb-true}
 use Rattle.tally.specs.Count.{bump}
 use Rattle.tally.specs.Gathered.{isSome, holds, passing, holders, all, common, first, lowest, leads, majority}
+use Rattle.tally.specs.Quorum.{quorumOf, majorityOf}
+use Rattle.tally.specs.declared.Engine.the-variants.{R}
 use Rattle.tally.specs.declared.Estimate.{Estimate}
 use Rattle.tally.specs.declared.Estimate.the-variants.{Blank, Split, Mileage}
+use Rattle.tally.proofs.Quorums.{majority-blocks}
 
 pub passing-le : (P : Estimate → Bool) (es : List Estimate) → passing P es ≤ length es
 unfolding passing
@@ -24,6 +27,22 @@ passing-le P (e ∷ es) = go (P e) (passing-le P es)
 pub holders-le : (v : ℕ) (es : List Estimate) → holders v es ≤ length es
 unfolding holders
 holders-le v es = passing-le (holds v) es
+
+-- those that pass a test and those that do not are all
+pub passing-split : (P : Estimate → Bool) (es : List Estimate) → passing P es + passing (λ e. not (P e)) es ≡ length es
+unfolding passing
+passing-split P [] = refl
+passing-split P (e ∷ es) = go (P e) (passing-split P es)
+  where
+    go : (b : Bool) → passing P es + passing (λ e. not (P e)) es ≡ length es → bump b (passing P es) + bump (not b) (passing (λ e. not (P e)) es) ≡ suc (length es)
+    go true h = omega arith
+    go false h = omega arith
+
+-- R: where fewer than a majority of the quorum gathered hold v, those that do not stop a quorum of v
+pub others-block : (n v : ℕ) (es : List Estimate) → length es ≡ quorumOf R n → holders v es < majorityOf n
+    → n - quorumOf R n + 1 ≤ passing (λ e. not (holds v e)) es
+unfolding holders
+others-block n v es q h = omega (arith, majority-blocks n (passing (holds v) es) h, passing-split (holds v) es)
 
 -- all hold v exactly where as many hold v as there are
 pub all-counted : (v : ℕ) (es : List Estimate) → all v es ≡ eqb (holders v es) (length es)

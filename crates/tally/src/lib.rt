@@ -65,7 +65,7 @@ pub struct Cell {
 // The senders that have been counted, and what each of them sent.
 pub struct Tally {
     pub marks: u16,
-    pub cells: [Cell; 16],
+    pub cells: [Cell; limits::SENDERS],
 }
 
 // How many units a decision takes.
@@ -123,7 +123,7 @@ impl Tally {
         };
         Tally {
             marks: 0,
-            cells: [blank; 16],
+            cells: [blank; limits::SENDERS],
         }
     }
 

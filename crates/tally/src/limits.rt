@@ -6,6 +6,9 @@ pub const MIN_UNITS: u8 = 3;
 
 pub const MAX_UNITS: u8 = 16;
 
+// A tally has a place for each unit number.
+pub const SENDERS: usize = MAX_UNITS as usize;
+
 pub const MIN_ENTRY: u16 = 1;
 
 pub const MAX_ENTRY: u16 = 9999;

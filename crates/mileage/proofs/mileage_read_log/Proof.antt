@@ -42,14 +42,14 @@ same-length c = search needs
 
 returns-2 : tie.Need-returns-2
 unfolding readLog readLogCall
-returns-2 c = 
+returns-2 c =
     let b = c .before .before .before .before .before .before in
     let taken = sym (b .before .before .read-log .ensures) ∙ ap logReading (b .l .given .1) in
     rw (eq-eqb _ _ (b .before .before .before .if1 .left), taken, c .number2 .ensures) (ap (wrote 0) (c .before .before .before .put-log .ensures))
 
 returns-3 : tie.Need-returns-3
 unfolding readLog readLogCall
-returns-3 c = 
+returns-3 c =
     let b = c .before .before .before .before in
     let taken = sym (b .read-log .ensures) ∙ ap logReading (c .before .before .k .given .1) in
     let bs = b .before .before .before .before .args .log .now in

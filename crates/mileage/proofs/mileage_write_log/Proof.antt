@@ -34,7 +34,7 @@ number-requires-3 c κs = search needs
 
 returns-3 : tie.Need-returns-3
 unfolding logNarrow writeLog writeLogCall
-returns-3 c = 
+returns-3 c =
     let fs = c .before .before .before .before .before .before .before .args .fields .now in
     let wide = sym (c .before .before .log-narrow .ensures) ∙ not-true _ (c .before .if3 .taken) in
     let refused = too-large (logFormat today) (lawful today sane-today) fs 5 (c .before .before .before .before .if1 .left) wide in
@@ -74,7 +74,7 @@ same-length c = search needs
 
 returns-4 : tie.Need-returns-4
 unfolding logNarrow writeLog writeLogCall
-returns-4 c = 
+returns-4 c =
     let e = c .before .before .before .before .before .before .before .e .given in
     let start = c .before .before .before .before .before .before .before .before .before .before .before .before .before .before .before .before .before .args in
     let letter = sym (c .before .before .before .before .before .before .before .before .before .engine-of .ensures) ∙ e .1 in
@@ -85,7 +85,7 @@ returns-4 c =
 
 returns-5 : tie.Need-returns-5
 unfolding logNarrow writeLog writeLogCall
-returns-5 c = 
+returns-5 c =
     let letter = sym (c .before .before .before .engine-of .ensures) ∙ c .before .enum-told .given .1 in
     rw (eq-eqb _ _ (c .before .before .before .before .before .before .before .before .if1 .left), eq-eqb _ _ (c .before .before .before .before .before .before .before .if2 .left), letter, c .number5 .ensures)
 

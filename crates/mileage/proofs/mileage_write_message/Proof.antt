@@ -42,7 +42,7 @@ same-length-3 c = search needs
 
 returns-3 : tie.Need-returns-3
 unfolding messageNarrow writeMessageCall
-returns-3 c = 
+returns-3 c =
     let fs = c .before .before .before .before .before .before .before .before .before .before .args .fields .now in
     let wide = sym (c .before .before .before .before .before .message-narrow .ensures) ∙ not-true _ (c .before .before .before .before .if3 .taken) in
     let refused = too-large (messageFormat today) (lawful today sane-today) fs 7 (c .before .before .before .before .before .before .before .if1 .left) wide in
@@ -77,7 +77,7 @@ same-length-4 c = search needs
 
 returns-4 : tie.Need-returns-4
 unfolding messageNarrow writeMessageCall
-returns-4 c = 
+returns-4 c =
     rw (eq-eqb _ _ (c .before .before .before .before .before .before .before .before .before .before .before .if1 .left), eq-eqb _ _ (c .before .before .before .before .before .before .before .before .before .before .if2 .left))
     (rw (c .before .before .before .before .before .before .kind-of .ensures, c .before .before .before .before .engine-of .ensures) at (c .before .before .write-known .ensures))
 

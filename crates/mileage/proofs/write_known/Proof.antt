@@ -40,7 +40,7 @@ same-length c = search needs
 
 returns : tie.Need-returns
 unfolding writeMessage
-returns c = 
+returns c =
     let start = c .before .before .before .before .before .before .before .before .before .before .before .before .before .before in
     let bs = start .args .message .now in
     let k = c .before .before .before .before .before .before .before .before .before .before .kind .given in

@@ -1,5 +1,5 @@
 use borrow.Author.Needs.{needs}
-use Rattle.codec.specs.Images.{cellOf, cellCode}
+use Rattle.codec.specs.Images.{cellOf, cellCode, cellWidths}
 use Rattle.codec.proofs.Rows.{replicate-step, drop-step}
 use Rattle.tally.specs.Limits.{senders}
 use Rattle.tally.specs.Tally.{blankCell}
@@ -15,7 +15,7 @@ use Rattle.codec.proofs.images.cells_at.Statement.{statement}
 use Rattle.codec.proofs.images.cells_at.Tie as tie
 
 abbrev Inv-loop : tie.InvT-loop
-Inv-loop s at cells₀ from₀ k₀ cells from k = (k ≤ senders) × ((from ≡ at + 4 * k) × ((length cells ≡ senders) × (sets cells k (map cellOf (unpack from (replicate (senders - k) 4) s)) ≡ map cellOf (unpack at (replicate senders 4) s))))
+Inv-loop s at cells₀ from₀ k₀ cells from k = (k ≤ senders) × ((from ≡ at + 4 * k) × ((length cells ≡ senders) × (sets cells k (map cellOf (unpack from (replicate (senders - k) 4) s)) ≡ map cellOf (unpack at cellWidths s))))
 
 abbrev μ-loop : tie.MeasureT-loop
 μ-loop s at cells₀ from₀ k₀ cells from k = senders - k

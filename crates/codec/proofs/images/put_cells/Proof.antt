@@ -1,5 +1,5 @@
 use borrow.Author.Needs.{needs}
-use Rattle.codec.specs.Images.{cellOf, cellCode}
+use Rattle.codec.specs.Images.{cellOf, cellCode, cellWidths}
 use Rattle.codec.proofs.Rows.{replicate-step, drop-step}
 use Rattle.tally.specs.Limits.{senders}
 use Rattle.tally.specs.Tally.{blankCell}
@@ -15,7 +15,7 @@ use Rattle.codec.proofs.images.put_cells.Statement.{statement}
 use Rattle.codec.proofs.images.put_cells.Tie as tie
 
 abbrev Inv-loop : tie.InvT-loop
-Inv-loop out₀ at xs from₀ k₀ out from k = (k ≤ senders) × ((from ≡ at + 4 * k) × ((length out ≡ length out₀) × (packInto out from (replicate (senders - k) 4) (map cellCode (drop k xs)) ≡ packInto out₀ at (replicate senders 4) (map cellCode xs))))
+Inv-loop out₀ at xs from₀ k₀ out from k = (k ≤ senders) × ((from ≡ at + 4 * k) × ((length out ≡ length out₀) × (packInto out from (replicate (senders - k) 4) (map cellCode (drop k xs)) ≡ packInto out₀ at cellWidths (map cellCode xs))))
 
 abbrev μ-loop : tie.MeasureT-loop
 μ-loop out₀ at xs from₀ k₀ out from k = senders - k

@@ -21,7 +21,7 @@ refused-requires-2 c κs = search needs
 
 returns-2 : tie.Need-returns-2
 unfolding readImage
-returns-2 c = 
+returns-2 c =
     rw (
       eq-eqb _ _ (c .before .before .before .if1 .left),
       ne-eqb _ _ (λ e. c .before .if2 .taken (c .before .before .be8 .ensures ∙ e)),
@@ -52,7 +52,7 @@ refused-requires-3 c κs = search needs
 
 returns-3 : tie.Need-returns-3
 unfolding readImage
-returns-3 c = 
+returns-3 c =
     let b = c .before .before .before .before in
     let z = b .before .before .before .before in
     let letter = sym (ap engineOf (b .before .before .be82 .ensures)) ∙ sym (b .before .engine-of .ensures) ∙ c .before .before .before .e .given .1 in
@@ -60,7 +60,7 @@ returns-3 c =
 
 returns-4 : tie.Need-returns-4
 unfolding readImage
-returns-4 c = 
+returns-4 c =
     let b = c .before .before .before in
     let letter = sym (ap engineOf (b .before .be82 .ensures)) ∙ sym (b .engine-of .ensures) ∙ c .before .enum-told .given .1 in
     let z = b .before .before .before in

@@ -37,7 +37,7 @@ enum-told c = search needs
 
 returns-3 : tie.Need-returns-3
 unfolding readLog
-returns-3 c = 
+returns-3 c =
     let b = c .before .before .before .before in
     let z = b .before .before .before .before in
     let letter = sym (ap engineOf (b .before .before .be82 .ensures)) ∙ sym (b .before .engine-of .ensures) ∙ c .before .before .before .e .given .1 in
@@ -45,7 +45,7 @@ returns-3 c =
 
 returns-4 : tie.Need-returns-4
 unfolding readLog
-returns-4 c = 
+returns-4 c =
     let b = c .before .before in
     let letter = sym (ap engineOf (b .before .be82 .ensures)) ∙ sym (b .engine-of .ensures) ∙ c .enum-told .given .1 in
     let z = b .before .before .before in

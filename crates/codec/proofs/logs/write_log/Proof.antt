@@ -27,7 +27,7 @@ same-length c = search needs
 
 returns-3 : tie.Need-returns-3
 unfolding writeLog
-returns-3 c = 
+returns-3 c =
     let b = c .before .before .before .before in
     let start = b .before .before .before .before .args in
     rw (eq-eqb _ _ (b .before .before .if1 .left), sym (b .before .well-formed .ensures) ∙ not-false _ (b .if2 .left))

@@ -34,7 +34,7 @@ message-from-requires c κs = search needs
 
 returns-3 : tie.Need-returns-3
 unfolding readMessage
-returns-3 c = 
+returns-3 c =
     let b = c .before .before .before .before .before in
     rw (eq-eqb _ _ (b .before .before .if1 .left), eq-eqb _ _ (sym (b .before .be8 .ensures) ∙ b .if2 .left)) (cc)
 

@@ -17,7 +17,7 @@ same-length c = search needs
 
 returns : tie.Need-returns
 unfolding cleared writeEmpty
-returns c = 
+returns c =
     let cleared-out = c .before .before .before .clear .ensures in
     let bs = c .before .before .before .before .before .before .args .out .now in
     let long = ap length cleared-out ∙ length-cleared today bs in
@@ -28,7 +28,7 @@ same-length-2 c = search needs
 
 returns-2 : tie.Need-returns-2
 unfolding cleared writeEmpty
-returns-2 c = 
+returns-2 c =
     let cleared-out = c .before .before .before .clear .ensures in
     let bs = c .before .before .before .before .before .before .args .out .now in
     let long = ap length cleared-out ∙ length-cleared today bs in

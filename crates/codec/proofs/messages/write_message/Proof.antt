@@ -18,7 +18,7 @@ same-length c = search needs
 
 returns : tie.Need-returns
 unfolding writeMessage
-returns c = 
+returns c =
     let cleared-out = c .before .before .before .clear .ensures in
     let bs = c .before .before .before .before .before .before .args .out .now in
     let long = ap length cleared-out ∙ length-cleared today bs in
@@ -32,7 +32,7 @@ same-length-2 c = search needs
 
 returns-2 : tie.Need-returns-2
 unfolding writeMessage
-returns-2 c = 
+returns-2 c =
     let cleared-out = c .before .before .before .before .before .clear .ensures in
     let bs = c .before .before .before .before .before .before .before .before .args .out .now in
     let long = ap length cleared-out ∙ length-cleared today bs in
@@ -46,7 +46,7 @@ same-length-3 c = search needs
 
 returns-3 : tie.Need-returns-3
 unfolding writeMessage
-returns-3 c = 
+returns-3 c =
     let cleared-out = c .before .before .before .before .before .before .before .before .before .clear .ensures in
     let bs = c .before .before .before .before .before .before .before .before .before .before .before .before .args .out .now in
     let long = ap length cleared-out ∙ length-cleared today bs in

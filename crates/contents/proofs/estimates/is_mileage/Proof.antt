@@ -2,10 +2,7 @@ use borrow.Author.Needs.{needs}
 use Rattle.contents.proofs.estimates.is_mileage.Statement.{statement}
 use Rattle.contents.proofs.estimates.is_mileage.Tie as tie
 
-returns-3 : tie.Need-returns-3
-returns-3 c = rw (c .before .before .e .given .1) (c .in-range .ensures)
-
 pub is-mileage-spec : {M : Type 1} → statement M
 is-mileage-spec =
     tie.close
-    (tie.spec (λ c. search needs) (λ c. search needs) (λ c. search needs) (λ c κs. search needs) (λ c. search needs) (λ c. search needs) returns-3)
+    (tie.spec (λ c. search needs) (λ c. search needs) (λ c. search needs) (λ c κs. search needs) (λ c. search needs) (λ c. search needs) (λ c. rw (c .before .before .e .given .1) (c .in-range .ensures)))

@@ -3,9 +3,6 @@ use borrow.Author.Needs.{needs}
 use Rattle.contents.proofs.estimates.mileage_or_blank.Statement.{statement}
 use Rattle.contents.proofs.estimates.mileage_or_blank.Tie as tie
 
-returns : tie.Need-returns
-unfolding mileageOrBlank
-returns c = cc
-
 pub mileage-or-blank-spec : {M : Type 1} → statement M
-mileage-or-blank-spec = tie.close (tie.spec (λ c κs. search needs) (λ c κs. search needs) returns)
+unfolding mileageOrBlank
+mileage-or-blank-spec = tie.close (tie.spec (λ c κs. search needs) (λ c κs. search needs) (λ c. cc))

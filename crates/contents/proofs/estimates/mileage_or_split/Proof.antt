@@ -3,10 +3,7 @@ use borrow.Author.Needs.{needs}
 use Rattle.contents.proofs.estimates.mileage_or_split.Statement.{statement}
 use Rattle.contents.proofs.estimates.mileage_or_split.Tie as tie
 
-returns : tie.Need-returns
-unfolding mileageOrSplit
-returns c = cc
-
 pub mileage-or-split-spec : {M : Type 1} → statement M
+unfolding mileageOrSplit
 mileage-or-split-spec =
-    tie.close (tie.spec (λ c κs. search needs) (λ c κs. search needs) (λ c κs. search needs) returns)
+    tie.close (tie.spec (λ c κs. search needs) (λ c κs. search needs) (λ c κs. search needs) (λ c. cc))

@@ -2,9 +2,6 @@ use borrow.Author.Needs.{needs}
 use Rattle.contents.proofs.estimates.same_estimate.Statement.{statement}
 use Rattle.contents.proofs.estimates.same_estimate.Tie as tie
 
-returns-3 : tie.Need-returns-3
-returns-3 c = rw (c .before .before .a .given .1) (c .holds .ensures)
-
 pub same-estimate-spec : {M : Type 1} → statement M
 same-estimate-spec =
     tie.close
@@ -17,4 +14,4 @@ same-estimate-spec =
     (λ c κs. search needs)
     (λ c. search needs)
     (λ c. search needs)
-    returns-3)
+    (λ c. rw (c .before .before .a .given .1) (c .holds .ensures)))

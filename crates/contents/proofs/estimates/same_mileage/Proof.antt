@@ -3,9 +3,6 @@ use borrow.Author.Needs.{needs}
 use Rattle.contents.proofs.estimates.same_mileage.Statement.{statement}
 use Rattle.contents.proofs.estimates.same_mileage.Tie as tie
 
-returns : tie.Need-returns
-unfolding sameMileage
-returns c = cc
-
 pub same-mileage-spec : {M : Type 1} → statement M
-same-mileage-spec = tie.close (tie.spec (λ c κs. search needs) (λ c κs. search needs) returns)
+unfolding sameMileage
+same-mileage-spec = tie.close (tie.spec (λ c κs. search needs) (λ c κs. search needs) (λ c. cc))

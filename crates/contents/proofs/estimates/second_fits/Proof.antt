@@ -3,11 +3,8 @@ use borrow.Author.Needs.{needs}
 use Rattle.contents.proofs.estimates.second_fits.Statement.{statement}
 use Rattle.contents.proofs.estimates.second_fits.Tie as tie
 
-returns : tie.Need-returns
-unfolding secondFits
-returns c = cc
-
 pub second-fits-spec : {M : Type 1} → statement M
+unfolding secondFits
 second-fits-spec =
     tie.close
-    (tie.spec (λ c κs. search needs) (λ c κs. search needs) (λ c κs. search needs) (λ c κs. search needs) returns)
+    (tie.spec (λ c κs. search needs) (λ c κs. search needs) (λ c κs. search needs) (λ c κs. search needs) (λ c. cc))

@@ -3,9 +3,6 @@ use borrow.Author.Needs.{needs}
 use Rattle.contents.proofs.images.fits.Statement.{statement}
 use Rattle.contents.proofs.images.fits.Tie as tie
 
-returns : tie.Need-returns
-unfolding fits
-returns c = cc
-
 pub fits-spec : {M : Type 1} → statement M
-fits-spec = tie.close (tie.spec (λ c κs. search needs) (λ c κs. search needs) returns)
+unfolding fits
+fits-spec = tie.close (tie.spec (λ c κs. search needs) (λ c κs. search needs) (λ c. cc))

@@ -17,10 +17,6 @@ Inv-loop split n t ok₀ s₀ ok s = (s ≤ senders) × (ok ≡ every s (λ u. p
 abbrev μ-loop : tie.MeasureT-loop
 μ-loop split n t ok₀ s₀ ok s = senders - s
 
-loop-holds : tie.Need-loop-holds Inv-loop μ-loop
-unfolding every
-loop-holds c = (omega arith, refl)
-
 loop-again : tie.Need-loop-again Inv-loop μ-loop
 unfolding every
 loop-again c = (
@@ -41,12 +37,13 @@ returns c =
     rw e at (c .before .loop .inv .1)
 
 pub places-ok-spec : {M : Type 1} → statement M
+unfolding every
 places-ok-spec =
     tie.close
     (tie.spec
     Inv-loop
     μ-loop
-    loop-holds
+    (λ c. (omega arith, refl))
     (λ c κs. search needs)
     (λ c κs. search needs)
     (λ c κs. search needs)

@@ -3,11 +3,8 @@ use borrow.Author.Needs.{needs}
 use Rattle.contents.proofs.images.state_fits.Statement.{statement}
 use Rattle.contents.proofs.images.state_fits.Tie as tie
 
-returns : tie.Need-returns
-unfolding stateFits
-returns c = cc
-
 pub state-fits-spec : {M : Type 1} → statement M
+unfolding stateFits
 state-fits-spec =
     tie.close
     (tie.spec
@@ -15,4 +12,4 @@ state-fits-spec =
     (λ c κs. search needs)
     (λ c κs. search needs)
     (λ c κs. search needs)
-    returns)
+    (λ c. cc))

@@ -3,9 +3,6 @@ use borrow.Author.Needs.{needs}
 use Rattle.contents.proofs.images.tally_ok.Statement.{statement}
 use Rattle.contents.proofs.images.tally_ok.Tie as tie
 
-returns : tie.Need-returns
-unfolding tallyOk
-returns c = cc
-
 pub tally-ok-spec : {M : Type 1} → statement M
-tally-ok-spec = tie.close (tie.spec (λ c κs. search needs) (λ c κs. search needs) (λ c κs. search needs) returns)
+unfolding tallyOk
+tally-ok-spec = tie.close (tie.spec (λ c κs. search needs) (λ c κs. search needs) (λ c κs. search needs) (λ c. cc))

@@ -3,11 +3,8 @@ use borrow.Author.Needs.{needs}
 use Rattle.contents.proofs.images.well_formed.Statement.{statement}
 use Rattle.contents.proofs.images.well_formed.Tie as tie
 
-returns : tie.Need-returns
-unfolding imageOk
-returns c = cc
-
 pub well-formed-spec : {M : Type 1} → statement M
+unfolding imageOk
 well-formed-spec =
     tie.close
     (tie.spec
@@ -17,4 +14,4 @@ well-formed-spec =
     (λ c κs. search needs)
     (λ c κs. search needs)
     (λ c κs. search needs)
-    returns)
+    (λ c. cc))

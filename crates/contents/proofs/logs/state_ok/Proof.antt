@@ -3,11 +3,8 @@ use borrow.Author.Needs.{needs}
 use Rattle.contents.proofs.logs.state_ok.Statement.{statement}
 use Rattle.contents.proofs.logs.state_ok.Tie as tie
 
-returns : tie.Need-returns
-unfolding stateOk
-returns c = cc
-
 pub state-ok-spec : {M : Type 1} → statement M
+unfolding stateOk
 state-ok-spec =
     tie.close
     (tie.spec
@@ -15,4 +12,4 @@ state-ok-spec =
     (λ c κs. search needs)
     (λ c κs. search needs)
     (λ c κs. search needs)
-    returns)
+    (λ c. cc))

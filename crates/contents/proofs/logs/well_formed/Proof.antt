@@ -3,9 +3,6 @@ use borrow.Author.Needs.{needs}
 use Rattle.contents.proofs.logs.well_formed.Statement.{statement}
 use Rattle.contents.proofs.logs.well_formed.Tie as tie
 
-returns : tie.Need-returns
-unfolding logOk
-returns c = cc
-
 pub well-formed-spec : {M : Type 1} → statement M
-well-formed-spec = tie.close (tie.spec (λ c κs. search needs) (λ c κs. search needs) returns)
+unfolding logOk
+well-formed-spec = tie.close (tie.spec (λ c κs. search needs) (λ c κs. search needs) (λ c. cc))

@@ -3,9 +3,6 @@ use borrow.Author.Needs.{needs}
 use Rattle.contents.proofs.messages.check_ok.Statement.{statement}
 use Rattle.contents.proofs.messages.check_ok.Tie as tie
 
-returns : tie.Need-returns
-unfolding checkOk
-returns c = cc
-
 pub check-ok-spec : {M : Type 1} → statement M
-check-ok-spec = tie.close (tie.spec (λ c κs. search needs) (λ c κs. search needs) returns)
+unfolding checkOk
+check-ok-spec = tie.close (tie.spec (λ c κs. search needs) (λ c κs. search needs) (λ c. cc))

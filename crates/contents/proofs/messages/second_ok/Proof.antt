@@ -3,9 +3,6 @@ use borrow.Author.Needs.{needs}
 use Rattle.contents.proofs.messages.second_ok.Statement.{statement}
 use Rattle.contents.proofs.messages.second_ok.Tie as tie
 
-returns : tie.Need-returns
-unfolding secondOk
-returns c = cc
-
 pub second-ok-spec : {M : Type 1} → statement M
-second-ok-spec = tie.close (tie.spec (λ c κs. search needs) (λ c κs. search needs) returns)
+unfolding secondOk
+second-ok-spec = tie.close (tie.spec (λ c κs. search needs) (λ c κs. search needs) (λ c. cc))

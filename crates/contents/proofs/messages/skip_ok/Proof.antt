@@ -3,9 +3,6 @@ use borrow.Author.Needs.{needs}
 use Rattle.contents.proofs.messages.skip_ok.Statement.{statement}
 use Rattle.contents.proofs.messages.skip_ok.Tie as tie
 
-returns : tie.Need-returns
-unfolding skipOk
-returns c = cc
-
 pub skip-ok-spec : {M : Type 1} → statement M
-skip-ok-spec = tie.close (tie.spec (λ c κs. search needs) (λ c κs. search needs) returns)
+unfolding skipOk
+skip-ok-spec = tie.close (tie.spec (λ c κs. search needs) (λ c κs. search needs) (λ c. cc))

@@ -3,10 +3,7 @@ use borrow.Author.Needs.{needs}
 use Rattle.contents.proofs.messages.well_formed.Statement.{statement}
 use Rattle.contents.proofs.messages.well_formed.Tie as tie
 
-returns : tie.Need-returns
-unfolding messageOk
-returns c = cc
-
 pub well-formed-spec : {M : Type 1} → statement M
+unfolding messageOk
 well-formed-spec =
-    tie.close (tie.spec (λ c κs. search needs) (λ c κs. search needs) (λ c κs. search needs) returns)
+    tie.close (tie.spec (λ c κs. search needs) (λ c κs. search needs) (λ c κs. search needs) (λ c. cc))
