@@ -4,7 +4,7 @@ use mathlib.Core.Bool.{Bool, true, false, cond}
 use mathlib.Core.List.{List}
 use Prim.Native.Nat.{ℕ}
 use lib.Dec.{eqb}
-use lib.ListN.{length, replicate, length-replicate}
+use lib.ListN.{length, length-replicate}
 use borrow.Author.Tests.{eqb-true}
 use Rattle.tally.specs.Limits.{Limits, messageSize}
 use Rattle.codec.specs.Messages.{emptyBytes, cleared}

@@ -2,8 +2,8 @@
 use mathlib.Core.Path.{_≡_, refl, sym, ap, ap₂, _∙_}
 use mathlib.Core.Bool.{Bool, true, false}
 use mathlib.Core.List.{List, [], _∷_, _++_, map}
-use mathlib.Core.Option.{Option, none, some}
-use Prim.Native.Nat.{ℕ, zero, suc, _+_, _<_, _≤_, _^_}
+use mathlib.Core.Option.{some}
+use Prim.Native.Nat.{ℕ, suc, _+_, _<_, _^_}
 use native.Mathlib.Omega.{arith}
 use lib.ListN.{length, getD, take, drop, replicate, length-append, length-drop, length-map, take-append-drop}
 use lib.Seq.{take-at, drop-at, getD-take, length-take-le}
@@ -17,12 +17,12 @@ use Rattle.contents.specs.Estimates.{isB}
 use Rattle.contents.specs.Images.{logOf as recordOf, imageOk}
 use Rattle.contents.specs.Logs.{logOk}
 use Rattle.contents.specs.declared.Image.{Image}
-use Rattle.contents.proofs.Facts.{Known, TallyFacts, ImageFacts, image-facts, known-place}
+use Rattle.contents.proofs.Facts.{Known, TallyFacts, image-facts, known-place}
 use Rattle.codec.specs.Codes.{engineOf}
 use Rattle.codec.specs.Formats.{withZero}
 use Rattle.codec.specs.Images.{cellOf, cellCode, tallyWidths, tallyNumbers, tallyOf, tallyFields}
 use Rattle.codec.specs.Images.{imageWidths, imageNumbers, imageOf, withTallies, letterRead, parseImage, imageFormat, imageBytes, readImage, writeImage}
-use Rattle.codec.specs.Logs.{logWidths, zeroPlace, logNumbers, logOf}
+use Rattle.codec.specs.Logs.{logWidths, zeroPlace, logNumbers}
 use Rattle.codec.specs.Numbers.{total, packInto}
 use Rattle.codec.specs.RoundTrip.{RoundTrip}
 use Rattle.codec.specs.declared.EngineRead.{EngineRead}

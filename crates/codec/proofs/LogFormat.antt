@@ -1,9 +1,9 @@
 -- A log's format is lawful. Assumes nothing.
-use Prim.Native.Nat.{ℕ, suc, _<_, _^_}
-use mathlib.Core.Path.{_≡_, refl, sym, ap, _∙_}
-use mathlib.Core.Bool.{Bool, true, false}
-use mathlib.Core.List.{List, [], _∷_}
-use mathlib.Core.Option.{Option, none, some}
+use Prim.Native.Nat.{ℕ, _<_, _^_}
+use mathlib.Core.Path.{_≡_, refl}
+use mathlib.Core.Bool.{true}
+use mathlib.Core.List.{List}
+use mathlib.Core.Option.{some}
 use native.Mathlib.Omega.{arith}
 use lib.ListN.{length, getD}
 use Rattle.tally.specs.Limits.{Limits, logSize, logFields}
@@ -11,10 +11,10 @@ use Rattle.tally.specs.declared.Engine.{Engine}
 use Rattle.tally.proofs.Bounds.{Sane, entry-fits, units-fit, everyone-fits}
 use Rattle.contents.specs.Logs.{logOk}
 use Rattle.contents.specs.declared.Log.{Log}
-use Rattle.contents.proofs.Facts.{LogFacts, log-facts, known-or-blank, known-second}
-use Rattle.codec.specs.Codes.{letterOf, engineOf, codeOf, estimateOf}
-use Rattle.codec.specs.Formats.{Format, withZero}
-use Rattle.codec.specs.Logs.{logWidths, zeroPlace, logNumbers, logOf, letterRead, parseLog, logFormat, readLog, writeLog}
+use Rattle.contents.proofs.Facts.{log-facts, known-or-blank, known-second}
+use Rattle.codec.specs.Codes.{engineOf}
+use Rattle.codec.specs.Formats.{withZero}
+use Rattle.codec.specs.Logs.{logWidths, zeroPlace, logNumbers, logOf, letterRead, logFormat, readLog, writeLog}
 use Rattle.codec.specs.RoundTrip.{RoundTrip}
 use Rattle.codec.specs.declared.EngineRead.{EngineRead}
 use Rattle.codec.specs.declared.EngineRead.the-variants.{Is, Unknown}

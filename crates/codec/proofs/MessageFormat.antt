@@ -1,9 +1,9 @@
 -- A message's format is lawful. Assumes nothing.
-use Prim.Native.Nat.{ℕ, suc, _<_, _^_}
-use mathlib.Core.Path.{_≡_, refl, sym, ap, _∙_}
-use mathlib.Core.Bool.{Bool, true, false}
-use mathlib.Core.List.{List, [], _∷_}
-use mathlib.Core.Option.{Option, none, some}
+use Prim.Native.Nat.{ℕ, _<_, _^_}
+use mathlib.Core.Path.{_≡_, refl}
+use mathlib.Core.Bool.{true}
+use mathlib.Core.List.{List}
+use mathlib.Core.Option.{some}
 use native.Mathlib.Omega.{arith}
 use lib.ListN.{length, getD}
 use Rattle.tally.specs.Limits.{Limits, messageSize, messageFields}
@@ -12,10 +12,10 @@ use Rattle.contents.specs.Messages.{kindOk, messageOk}
 use Rattle.contents.specs.declared.Kind.{Kind}
 use Rattle.contents.specs.declared.Kind.the-variants.{Empty}
 use Rattle.contents.specs.declared.Message.{Message}
-use Rattle.contents.proofs.Facts.{MessageFacts, message-facts}
+use Rattle.contents.proofs.Facts.{message-facts}
 use Rattle.contents.proofs.Tests.{never}
-use Rattle.codec.specs.Codes.{letterOf, engineOf, kindLetter, kindOf, codeOf, estimateOf}
-use Rattle.codec.specs.Formats.{Format, withZero}
+use Rattle.codec.specs.Codes.{engineOf, kindOf}
+use Rattle.codec.specs.Formats.{withZero}
 use Rattle.codec.specs.Messages.{messageWidths, zeroPlace, messageNumbers, messageOf, lettersRead, parseMessage, cleared, messageFormat, readMessage, writeMessage}
 use Rattle.codec.specs.RoundTrip.{RoundTrip}
 use Rattle.codec.specs.declared.EngineRead.{EngineRead}

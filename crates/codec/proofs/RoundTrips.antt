@@ -1,5 +1,5 @@
 -- Both round trips, of any format whose fields obey the laws of `Lawful`. Assumes nothing.
-use Prim.Native.Nat.{ℕ, zero, suc, _+_, _≤_, _<_}
+use Prim.Native.Nat.{ℕ, suc, _+_, _≤_, _<_}
 use mathlib.Core.Path.{_≡_, refl, sym, ap, _∙_}
 use mathlib.Core.Bool.{Bool, true, false, cond, false≢true}
 use mathlib.Core.List.{List, [], _∷_, _++_}
@@ -9,8 +9,8 @@ use lib.Dec.{eqb}
 use lib.ListN.{length, getD, take, drop, length-append, length-drop, take-append-drop}
 use lib.Seq.{take-at, drop-at, getD-at, split-at, append-snoc, length-take-le}
 use borrow.Author.Tests.{eq-eqb, ne-eqb, eqb-true}
-use Rattle.codec.specs.Formats.{Reading, reading, Wrote, wrote, Format, withZero, without, checked, fromNumbers, fromRow, readBytes, toBytes, writeBytes}
-use Rattle.codec.specs.Numbers.{Bytes, total, unpack, pack}
+use Rattle.codec.specs.Formats.{Reading, reading, wrote, Format, withZero, without, checked, fromNumbers, fromRow, readBytes, toBytes, writeBytes}
+use Rattle.codec.specs.Numbers.{Bytes, total, unpack}
 use Rattle.codec.specs.RoundTrip.{RoundTrip}
 use Rattle.codec.proofs.Rows.{Fit, length-pack, length-unpack, unpack-pack, pack-unpack}
 

@@ -2,10 +2,10 @@
 use mathlib.Core.Path.{_≡_, refl, sym, ap, _∙_}
 use mathlib.Core.List.{List, [], _∷_, _++_, append-assoc, append-nil}
 use Prim.Native.Nat.{ℕ, zero, suc, _+_, _-_, _*_, _/_, _%_, _^_, _<_, _≤_}
-use native.Mathlib.Nat.{add-zero, zero-add, add-assoc, pow-suc, div-lt-iff-lt-mul}
+use native.Mathlib.Nat.{add-zero, add-assoc, pow-suc}
 use native.Mathlib.Numerals.{add-one}
 use native.Mathlib.Omega.{arith}
-use lib.ListN.{length, getD, take, drop, length-append, length-take, length-drop, take-append-drop, drop-of-length-le, replicate}
+use lib.ListN.{length, getD, take, drop, length-append, length-drop, take-append-drop, drop-of-length-le, replicate}
 use lib.Seq.{sets, sets-eq, take-at, getD-at, getD-drop, take-suc, take-all, drop-drop, length-take-le, length-sets, drop-cons}
 use Rattle.codec.specs.Numbers.{numAt, bytesOf, Bytes, total, unpack, pack, packInto}
 

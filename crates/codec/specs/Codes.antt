@@ -1,6 +1,6 @@
 -- Letters, in ASCII, and estimates as numbers. Assumes nothing.
 use Prim.Native.Nat.{ℕ}
-use mathlib.Core.Bool.{Bool, true, false, cond}
+use mathlib.Core.Bool.{cond}
 use lib.Dec.{eqb}
 use Rattle.tally.specs.Limits.{blankCode, splitCode}
 use Rattle.tally.specs.declared.Engine.{Engine}

@@ -1,6 +1,6 @@
 -- The bytes of an image. Assumes nothing.
 use Prim.Native.Nat.{ℕ, _+_}
-use mathlib.Core.List.{List, [], _∷_, _++_, map}
+use mathlib.Core.List.{List, _∷_, _++_, map}
 use mathlib.Core.Option.{Option, none, some}
 use lib.ListN.{length, getD, take, drop, replicate}
 use Rattle.tally.specs.Limits.{Limits, imageSize, logFields, senders}

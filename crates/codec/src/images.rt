@@ -16,7 +16,7 @@ use tally::Tally;
 use tally::limits;
 ghost use mathlib.Core.Path.{_≡_};
 ghost use mathlib.Core.List.{map};
-ghost use mathlib.Core.Option.{Option, some, none};
+ghost use mathlib.Core.Option.{some};
 ghost use Prim.Native.Nat.{_+_, _≤_};
 ghost use lib.ListN.{length};
 ghost use Rattle.tally.specs.Limits.{today, imageSize, senders};

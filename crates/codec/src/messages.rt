@@ -10,7 +10,7 @@ use tally::Engine;
 use tally::Refusal;
 use tally::limits;
 ghost use mathlib.Core.Path.{_≡_};
-ghost use mathlib.Core.Option.{Option, some};
+ghost use mathlib.Core.Option.{some};
 ghost use lib.ListN.{length};
 ghost use Rattle.tally.specs.Limits.{today, messageSize};
 ghost use Rattle.tally.specs.Refusal.{numberOf};

@@ -1,6 +1,6 @@
 -- Well-formed logs. Assumes nothing.
 use Prim.Native.Nat.{ℕ}
-use mathlib.Core.Bool.{Bool, true, false, _&&_}
+use mathlib.Core.Bool.{Bool, _&&_}
 use lib.Dec.{leb, ltb}
 use Rattle.tally.specs.Limits.{Limits, minUnits, maxUnits, minEntry, maxEntry}
 use Rattle.tally.specs.declared.Engine.{Engine}

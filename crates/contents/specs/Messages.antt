@@ -1,5 +1,5 @@
 -- Well-formed messages. Assumes nothing.
-use mathlib.Core.Bool.{Bool, true, false, _&&_}
+use mathlib.Core.Bool.{Bool, false, _&&_}
 use lib.Dec.{eqb, ltb}
 use Rattle.tally.specs.Limits.{Limits, everyone}
 use Rattle.contents.specs.Estimates.{isB, isBlank, mileageOrBlank, mileageOrSplit, sameMileage}

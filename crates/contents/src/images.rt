@@ -11,7 +11,6 @@ use tally::Tally;
 use tally::limits;
 ghost use mathlib.Core.Path.{_≡_};
 ghost use Rattle.tally.specs.Limits.{today};
-ghost use Rattle.contents.specs.Logs.{logOk};
 ghost use Rattle.contents.specs.Images.{logOf, placeOk, placesOk, tallyOk, imageOk, sameSettings, stateFits, fits};
 
 // The record that an image's first bytes are laid out as.

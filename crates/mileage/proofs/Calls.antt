@@ -1,6 +1,6 @@
 -- The calls over any lawful format: what writing contents answers, and both round trips between fields and bytes. Assumes nothing.
 use Prim.Native.Nat.{ℕ, _+_, _≤_}
-use mathlib.Core.Path.{_≡_, refl, sym, ap, _∙_}
+use mathlib.Core.Path.{_≡_, refl, ap}
 use mathlib.Core.Bool.{Bool, true, false, cond, _&&_}
 use mathlib.Core.List.{List, append-nil}
 use mathlib.Core.Option.{some}
@@ -10,7 +10,7 @@ use lib.ListN.{length, drop-of-length-le}
 use lib.Seq.{sets, sets-eq}
 use borrow.Author.Tests.{eq-eqb, ne-eqb, eqb-true, eqb-false}
 use Rattle.contents.proofs.Tests.{and-true}
-use Rattle.codec.specs.Formats.{Reading, reading, Wrote, wrote, Format, checked, fromNumbers, readBytes, toBytes, writeBytes}
+use Rattle.codec.specs.Formats.{Reading, reading, wrote, Format, checked, fromNumbers, readBytes, toBytes, writeBytes}
 use Rattle.codec.specs.Numbers.{Bytes}
 use Rattle.codec.proofs.RoundTrips.{Lawful, from-numbers, numbers-back, read-written, written-read}
 use Rattle.codec.specs.Logs.{logFormat}

@@ -5,12 +5,12 @@ use mathlib.Core.Bool.{Bool, true, false, cond, _&&_, and-true, false≢true}
 use mathlib.Core.List.{List, [], _∷_, _++_}
 use mathlib.Core.Option.{Option, none, some}
 use native.Mathlib.Omega.{arith}
-use lib.Dec.{eqb, ltb}
+use lib.Dec.{ltb}
 use lib.ListN.{length, getD, take, drop, length-append}
 use lib.Seq.{getD-at, append-snoc}
 use borrow.Author.Tests.{lt-ltb, ltb-true}
 use Rattle.contents.proofs.Tests as tests
-use Rattle.codec.specs.Formats.{Reading, reading, Format, withZero, without, checked, fromNumbers}
+use Rattle.codec.specs.Formats.{reading, Format, withZero, without, checked, fromNumbers}
 use Rattle.codec.proofs.RoundTrips.{Lawful, without-zero}
 use Rattle.codec.proofs.Rows.{Fit, fit-append}
 use Rattle.mileage.specs.Fields.{narrow, logNarrow, messageNarrow}

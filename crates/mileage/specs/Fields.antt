@@ -1,6 +1,6 @@
 -- Logs and messages between plain numbers and bytes: what the four calls answer. Assumes nothing.
 use Prim.Native.Nat.{ℕ, suc, _^_}
-use mathlib.Core.Bool.{Bool, true, false, cond, _&&_}
+use mathlib.Core.Bool.{Bool, true, cond, _&&_}
 use mathlib.Core.List.{List, [], _∷_}
 use mathlib.Core.Path.{_≡_}
 use lib.Dec.{eqb, ltb}

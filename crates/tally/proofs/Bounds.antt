@@ -1,6 +1,6 @@
 -- What proofs use of the limits, instead of their values. Assumes nothing.
 use mathlib.Core.Path.{_≡_, refl}
-use Prim.Native.Nat.{ℕ, _^_, _<_}
+use Prim.Native.Nat.{_^_, _<_}
 use native.Mathlib.Omega.{arith}
 use Rattle.tally.specs.Limits.{Limits, today, blankCode, splitCode, maxUnits, maxEntry, everyone, logSize, imageSize, messageSize}
 

@@ -1,5 +1,5 @@
 -- Tallies: one turn of a loop over the senders, counts over unit numbers, and what marking a sender changes. Assumes nothing.
-use Prim.Native.Nat.{ℕ, zero, suc, _+_, _-_, _^_, _≤_, _<_}
+use Prim.Native.Nat.{ℕ, zero, suc, _+_, _-_, _^_, _<_}
 use mathlib.Core.Path.{_≡_, refl, sym, ap, _∙_}
 use mathlib.Core.Bool.{Bool, true, false, cond, _&&_, and-true}
 use mathlib.Core.List.{List, [], _∷_}
@@ -15,7 +15,7 @@ use Rattle.tally.specs.Gathered.{holds, passing, holders, first}
 use Rattle.tally.specs.Tally.{isMarked, blankCell, placed, held, mark, gatheredFrom, gathered}
 use Rattle.tally.specs.declared.Cell.{Cell}
 use Rattle.tally.specs.declared.Estimate.{Estimate}
-use Rattle.tally.specs.declared.Estimate.the-variants.{Blank, Split, Mileage}
+use Rattle.tally.specs.declared.Estimate.the-variants.{Blank}
 use Rattle.tally.specs.declared.Tally.{Tally}
 use Rattle.tally.proofs.Count.{count-same}
 use Rattle.tally.proofs.Marks.{ones-senders, mark-same, mark-other}

@@ -1,5 +1,5 @@
-use mathlib.Core.Path.{_≡_, refl, sym, ap, _∙_}
-use borrow.Author.Tests.{eq-eqb, ne-eqb, not-true, not-false}
+use mathlib.Core.Path.{sym, ap, _∙_}
+use borrow.Author.Tests.{eq-eqb, ne-eqb}
 use Rattle.tally.specs.Limits.{today}
 use Rattle.tally.specs.Refusal.{numberOf}
 use Rattle.tally.proofs.Bounds.{sane-today}
@@ -11,34 +11,6 @@ use Rattle.mileage.specs.Fields.{readLogCall}
 use borrow.Author.Needs.{needs}
 use Rattle.mileage.proofs.mileage_read_log.Statement.{statement}
 use Rattle.mileage.proofs.mileage_read_log.Tie as tie
-
-number-requires : tie.Need-number-requires
-number-requires c κs = search needs
-
-returns : tie.Need-returns
-unfolding readLog readLogCall
-returns c = rw (ne-eqb _ _ (c .before .if1 .taken), c .number .ensures)
-
-read-log-requires : tie.Need-read-log-requires
-read-log-requires c κs = search needs
-
-enum-known-l : tie.Need-enum-known-l
-enum-known-l c = search needs
-
-put-log-requires : tie.Need-put-log-requires
-put-log-requires c κs = search needs
-
-number-requires-2 : tie.Need-number-requires-2
-number-requires-2 c κs = search needs
-
-enum-known-k : tie.Need-enum-known-k
-enum-known-k c = search needs
-
-number-requires-3 : tie.Need-number-requires-3
-number-requires-3 c κs = search needs
-
-same-length : tie.Need-same-length
-same-length c = search needs
 
 returns-2 : tie.Need-returns-2
 unfolding readLog readLogCall
@@ -57,17 +29,18 @@ returns-3 c =
     rw (eq-eqb _ _ (b .before .if1 .left), taken, refused, c .number3 .ensures)
 
 pub mileage-read-log-spec : {M : Type 1} → statement M
+unfolding readLog readLogCall
 mileage-read-log-spec =
     tie.close
     (tie.spec
-    number-requires
-    returns
-    read-log-requires
-    enum-known-l
-    put-log-requires
-    number-requires-2
-    enum-known-k
-    number-requires-3
-    same-length
+    (λ c κs. search needs)
+    (λ c. rw (ne-eqb _ _ (c .before .if1 .taken), c .number .ensures))
+    (λ c κs. search needs)
+    (λ c. search needs)
+    (λ c κs. search needs)
+    (λ c κs. search needs)
+    (λ c. search needs)
+    (λ c κs. search needs)
+    (λ c. search needs)
     returns-2
     returns-3)

@@ -1,4 +1,4 @@
-use mathlib.Core.Path.{_≡_, refl, sym, ap, _∙_}
+use mathlib.Core.Path.{sym, ap, _∙_}
 use borrow.Author.Tests.{eq-eqb, ne-eqb, not-true, not-false}
 use native.Mathlib.Omega.{arith}
 use Rattle.tally.specs.Limits.{today}
@@ -12,26 +12,6 @@ use borrow.Author.Needs.{needs}
 use Rattle.mileage.proofs.mileage_write_log.Statement.{statement}
 use Rattle.mileage.proofs.mileage_write_log.Tie as tie
 
-number-requires : tie.Need-number-requires
-number-requires c κs = search needs
-
-returns : tie.Need-returns
-unfolding logNarrow writeLog writeLogCall
-returns c = rw (ne-eqb _ _ (c .before .if1 .taken), c .number .ensures)
-
-number-requires-2 : tie.Need-number-requires-2
-number-requires-2 c κs = search needs
-
-returns-2 : tie.Need-returns-2
-unfolding logNarrow writeLog writeLogCall
-returns-2 c = rw (eq-eqb _ _ (c .before .before .if1 .left), ne-eqb _ _ (c .before .if2 .taken), c .number2 .ensures)
-
-log-narrow-requires : tie.Need-log-narrow-requires
-log-narrow-requires c κs = search needs
-
-number-requires-3 : tie.Need-number-requires-3
-number-requires-3 c κs = search needs
-
 returns-3 : tie.Need-returns-3
 unfolding logNarrow writeLog writeLogCall
 returns-3 c =
@@ -39,38 +19,6 @@ returns-3 c =
     let wide = sym (c .before .before .log-narrow .ensures) ∙ not-true _ (c .before .if3 .taken) in
     let refused = too-large (logFormat today) (lawful today sane-today) fs 5 (c .before .before .before .before .if1 .left) wide in
     rw (eq-eqb _ _ (c .before .before .before .before .if1 .left), eq-eqb _ _ (c .before .before .before .if2 .left), refused, c .number3 .ensures)
-
-shared-slice-read-engine-of : tie.Need-shared-slice-read-engine-of
-shared-slice-read-engine-of c = search needs
-
-cast-engine-of : tie.Need-cast-engine-of
-unfolding logNarrow writeLog writeLogCall
-cast-engine-of c = let small = log-small (c .before .before .before .before .before .before .before .args .fields .now) (sym (c .before .before .log-narrow .ensures) ∙ not-false _ (c .before .if3 .left)) in omega arith
-
-engine-of-requires : tie.Need-engine-of-requires
-engine-of-requires c κs = search needs
-
-enum-known-e : tie.Need-enum-known-e
-enum-known-e c = search needs
-
-log-of-requires : tie.Need-log-of-requires
-unfolding logNarrow writeLog writeLogCall
-log-of-requires c κs = (search needs, sym (c .before .before .before .before .before .before .log-narrow .ensures) ∙ not-false _ (c .before .before .before .before .before .if3 .left))
-
-write-log-requires : tie.Need-write-log-requires
-write-log-requires c κs = search needs
-
-number-requires-4 : tie.Need-number-requires-4
-number-requires-4 c κs = search needs
-
-enum-told : tie.Need-enum-told
-enum-told c = search needs
-
-number-requires-5 : tie.Need-number-requires-5
-number-requires-5 c κs = search needs
-
-same-length : tie.Need-same-length
-same-length c = search needs
 
 returns-4 : tie.Need-returns-4
 unfolding logNarrow writeLog writeLogCall
@@ -90,25 +38,26 @@ returns-5 c =
     rw (eq-eqb _ _ (c .before .before .before .before .before .before .before .before .if1 .left), eq-eqb _ _ (c .before .before .before .before .before .before .before .if2 .left), letter, c .number5 .ensures)
 
 pub mileage-write-log-spec : {M : Type 1} → statement M
+unfolding logNarrow writeLog writeLogCall
 mileage-write-log-spec =
     tie.close
     (tie.spec
-    number-requires
-    returns
-    number-requires-2
-    returns-2
-    log-narrow-requires
-    number-requires-3
+    (λ c κs. search needs)
+    (λ c. rw (ne-eqb _ _ (c .before .if1 .taken), c .number .ensures))
+    (λ c κs. search needs)
+    (λ c. rw (eq-eqb _ _ (c .before .before .if1 .left), ne-eqb _ _ (c .before .if2 .taken), c .number2 .ensures))
+    (λ c κs. search needs)
+    (λ c κs. search needs)
     returns-3
-    shared-slice-read-engine-of
-    cast-engine-of
-    engine-of-requires
-    enum-known-e
-    log-of-requires
-    write-log-requires
-    number-requires-4
-    enum-told
-    number-requires-5
-    same-length
+    (λ c. search needs)
+    (λ c. let small = log-small (c .before .before .before .before .before .before .before .args .fields .now) (sym (c .before .before .log-narrow .ensures) ∙ not-false _ (c .before .if3 .left)) in omega arith)
+    (λ c κs. search needs)
+    (λ c. search needs)
+    (λ c κs. (search needs, sym (c .before .before .before .before .before .before .log-narrow .ensures) ∙ not-false _ (c .before .before .before .before .before .if3 .left)))
+    (λ c κs. search needs)
+    (λ c κs. search needs)
+    (λ c. search needs)
+    (λ c κs. search needs)
+    (λ c. search needs)
     returns-4
     returns-5)

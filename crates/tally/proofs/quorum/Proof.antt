@@ -3,12 +3,6 @@ use borrow.Author.Needs.{needs}
 use Rattle.tally.proofs.quorum.Statement.{statement}
 use Rattle.tally.proofs.quorum.Tie as tie
 
-returns : tie.Need-returns
-returns c = rw (c .enum-told .given .1) (omega arith)
-
-returns-2 : tie.Need-returns-2
-returns-2 c = rw (c .enum-told2 .given .1) (omega arith)
-
 pub quorum-spec : {M : Type 1} → statement M
 quorum-spec =
-    tie.close (tie.spec (λ c. search needs) (λ c. search needs) (λ c. search needs) (λ c. search needs) (λ c. search needs) returns returns-2)
+    tie.close (tie.spec (λ c. search needs) (λ c. search needs) (λ c. search needs) (λ c. search needs) (λ c. search needs) (λ c. rw (c .enum-told .given .1) (omega arith)) (λ c. rw (c .enum-told2 .given .1) (omega arith)))

@@ -1,16 +1,15 @@
 use borrow.Author.Needs.{needs}
-use Rattle.codec.specs.Images.{cellOf, cellCode, cellWidths}
-use Rattle.codec.proofs.Rows.{replicate-step, drop-step}
+use Rattle.codec.specs.Images.{cellOf, cellWidths}
+use Rattle.codec.proofs.Rows.{replicate-step}
 use Rattle.tally.specs.Limits.{senders}
-use Rattle.tally.specs.Tally.{blankCell}
-use Rattle.codec.specs.Numbers.{unpack, packInto}
+use Rattle.codec.specs.Numbers.{unpack}
 use native.Mathlib.Numerals.{add-one}
 use native.Mathlib.Omega.{arith}
 use lib.Seq.{sets}
-use lib.ListN.{length, drop, replicate, length-set}
+use lib.ListN.{length, replicate, length-set}
 use mathlib.Core.List.{map}
-use mathlib.Core.Path.{_≡_, refl, sym, ap, _∙_}
-use Prim.Native.Nat.{ℕ, _+_, _*_, _-_, _≤_, _<_}
+use mathlib.Core.Path.{_≡_, refl}
+use Prim.Native.Nat.{_+_, _*_, _-_, _≤_}
 use Rattle.codec.proofs.images.cells_at.Statement.{statement}
 use Rattle.codec.proofs.images.cells_at.Tie as tie
 
@@ -19,9 +18,6 @@ Inv-loop s at cells₀ from₀ k₀ cells from k = (k ≤ senders) × ((from ≡
 
 abbrev μ-loop : tie.MeasureT-loop
 μ-loop s at cells₀ from₀ k₀ cells from k = senders - k
-
-loop-holds : tie.Need-loop-holds Inv-loop μ-loop
-loop-holds c = (omega arith, (omega arith, (refl, refl)))
 
 loop-again : tie.Need-loop-again Inv-loop μ-loop
 loop-again c =
@@ -41,7 +37,7 @@ cells-at-spec =
     (tie.spec
     Inv-loop
     μ-loop
-    loop-holds
+    (λ c. (omega arith, (omega arith, (refl, refl))))
     (λ c κs. search needs)
     (λ c κs. search needs)
     (λ c. search needs)

@@ -1,16 +1,14 @@
 use borrow.Author.Needs.{needs}
-use Rattle.codec.specs.Images.{cellOf, cellCode, cellWidths}
+use Rattle.codec.specs.Images.{cellCode, cellWidths}
 use Rattle.codec.proofs.Rows.{replicate-step, drop-step}
 use Rattle.tally.specs.Limits.{senders}
 use Rattle.tally.specs.Tally.{blankCell}
-use Rattle.codec.specs.Numbers.{unpack, packInto}
-use native.Mathlib.Numerals.{add-one}
+use Rattle.codec.specs.Numbers.{packInto}
 use native.Mathlib.Omega.{arith}
-use lib.Seq.{sets}
-use lib.ListN.{length, drop, replicate, length-set}
+use lib.ListN.{length, drop, replicate}
 use mathlib.Core.List.{map}
-use mathlib.Core.Path.{_≡_, refl, sym, ap, _∙_}
-use Prim.Native.Nat.{ℕ, _+_, _*_, _-_, _≤_, _<_}
+use mathlib.Core.Path.{_≡_, refl}
+use Prim.Native.Nat.{_+_, _*_, _-_, _≤_, _<_}
 use Rattle.codec.proofs.images.put_cells.Statement.{statement}
 use Rattle.codec.proofs.images.put_cells.Tie as tie
 
@@ -19,9 +17,6 @@ Inv-loop out₀ at xs from₀ k₀ out from k = (k ≤ senders) × ((from ≡ at
 
 abbrev μ-loop : tie.MeasureT-loop
 μ-loop out₀ at xs from₀ k₀ out from k = senders - k
-
-loop-holds : tie.Need-loop-holds Inv-loop μ-loop
-loop-holds c = (omega arith, (omega arith, (refl, refl)))
 
 loop-again : tie.Need-loop-again Inv-loop μ-loop
 loop-again c =
@@ -43,7 +38,7 @@ put-cells-spec =
     (tie.spec
     Inv-loop
     μ-loop
-    loop-holds
+    (λ c. (omega arith, (omega arith, (refl, refl))))
     (λ c. search needs)
     (λ c. search needs)
     (λ c κs. search needs)

@@ -3,21 +3,6 @@ use borrow.Author.Needs.{needs}
 use Rattle.codec.proofs.images.put_image.Statement.{statement}
 use Rattle.codec.proofs.images.put_image.Tie as tie
 
-log-of-requires : tie.Need-log-of-requires
-log-of-requires c κs = search needs
-
-put-log-requires : tie.Need-put-log-requires
-put-log-requires c κs = search needs
-
-put-tally-requires : tie.Need-put-tally-requires
-put-tally-requires c κs = search needs
-
-put-tally-requires-2 : tie.Need-put-tally-requires-2
-put-tally-requires-2 c κs = search needs
-
-same-length : tie.Need-same-length
-same-length c = search needs
-
 returns : tie.Need-returns
 returns c =
     let start = c .before .before .before .before .before .before .before .before .before .before .before .before .before .before .before .before in
@@ -28,9 +13,9 @@ pub put-image-spec : {M : Type 1} → statement M
 put-image-spec =
     tie.close
     (tie.spec
-    log-of-requires
-    put-log-requires
-    put-tally-requires
-    put-tally-requires-2
-    same-length
+    (λ c κs. search needs)
+    (λ c κs. search needs)
+    (λ c κs. search needs)
+    (λ c κs. search needs)
+    (λ c. search needs)
     returns)

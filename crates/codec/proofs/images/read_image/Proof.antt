@@ -1,23 +1,10 @@
-use mathlib.Core.Path.{_≡_, refl, sym, ap, _∙_}
-use borrow.Author.Tests.{eq-eqb, ne-eqb, not-true, not-false}
+use mathlib.Core.Path.{sym, ap, _∙_}
+use borrow.Author.Tests.{eq-eqb, ne-eqb}
 use Rattle.codec.specs.Codes.{engineOf}
 use Rattle.codec.specs.Images.{readImage}
 use borrow.Author.Needs.{needs}
 use Rattle.codec.proofs.images.read_image.Statement.{statement}
 use Rattle.codec.proofs.images.read_image.Tie as tie
-
-refused-requires : tie.Need-refused-requires
-refused-requires c κs = search needs
-
-returns : tie.Need-returns
-unfolding readImage
-returns c = rw (ne-eqb _ _ (c .before .if1 .taken), c .refused .ensures .0, c .refused .ensures .1)
-
-be8-requires : tie.Need-be8-requires
-be8-requires c κs = search needs
-
-refused-requires-2 : tie.Need-refused-requires-2
-refused-requires-2 c κs = search needs
 
 returns-2 : tie.Need-returns-2
 unfolding readImage
@@ -28,27 +15,6 @@ returns-2 c =
       c .refused2 .ensures .0,
       c .refused2 .ensures .1,
     )
-
-be8-requires-2 : tie.Need-be8-requires-2
-be8-requires-2 c κs = search needs
-
-engine-of-requires : tie.Need-engine-of-requires
-engine-of-requires c κs = search needs
-
-enum-known-e : tie.Need-enum-known-e
-enum-known-e c = search needs
-
-image-at-requires : tie.Need-image-at-requires
-image-at-requires c κs = search needs
-
-checked-image-requires : tie.Need-checked-image-requires
-checked-image-requires c κs = search needs
-
-enum-told : tie.Need-enum-told
-enum-told c = search needs
-
-refused-requires-3 : tie.Need-refused-requires-3
-refused-requires-3 c κs = search needs
 
 returns-3 : tie.Need-returns-3
 unfolding readImage
@@ -73,20 +39,21 @@ returns-4 c =
     )
 
 pub read-image-spec : {M : Type 1} → statement M
+unfolding readImage
 read-image-spec =
     tie.close
     (tie.spec
-    refused-requires
-    returns
-    be8-requires
-    refused-requires-2
+    (λ c κs. search needs)
+    (λ c. rw (ne-eqb _ _ (c .before .if1 .taken), c .refused .ensures .0, c .refused .ensures .1))
+    (λ c κs. search needs)
+    (λ c κs. search needs)
     returns-2
-    be8-requires-2
-    engine-of-requires
-    enum-known-e
-    image-at-requires
-    checked-image-requires
-    enum-told
-    refused-requires-3
+    (λ c κs. search needs)
+    (λ c κs. search needs)
+    (λ c. search needs)
+    (λ c κs. search needs)
+    (λ c κs. search needs)
+    (λ c. search needs)
+    (λ c κs. search needs)
     returns-3
     returns-4)

@@ -1,27 +1,10 @@
-use mathlib.Core.Path.{_≡_, refl, sym, ap, _∙_}
+use mathlib.Core.Path.{sym, ap, _∙_}
 use borrow.Author.Tests.{eq-eqb, ne-eqb, not-true, not-false}
 use Rattle.codec.specs.Formats.{wrote}
 use Rattle.codec.specs.Images.{imageBytes, writeImage}
 use borrow.Author.Needs.{needs}
 use Rattle.codec.proofs.images.write_image.Statement.{statement}
 use Rattle.codec.proofs.images.write_image.Tie as tie
-
-returns : tie.Need-returns
-unfolding writeImage imageBytes
-returns c = rw (ne-eqb _ _ (c .if1 .taken))
-
-well-formed-requires : tie.Need-well-formed-requires
-well-formed-requires c κs = search needs
-
-returns-2 : tie.Need-returns-2
-unfolding writeImage imageBytes
-returns-2 c = rw (eq-eqb _ _ (c .before .before .if1 .left), sym (c .before .well-formed .ensures) ∙ not-true _ (c .if2 .taken))
-
-put-image-requires : tie.Need-put-image-requires
-put-image-requires c κs = search needs
-
-same-length : tie.Need-same-length
-same-length c = search needs
 
 returns-3 : tie.Need-returns-3
 unfolding writeImage imageBytes
@@ -31,6 +14,7 @@ returns-3 c =
     (ap (wrote 0) (c .before .before .put-image .ensures))
 
 pub write-image-spec : {M : Type 1} → statement M
+unfolding imageBytes writeImage
 write-image-spec =
     tie.close
-    (tie.spec returns well-formed-requires returns-2 put-image-requires same-length returns-3)
+    (tie.spec (λ c. rw (ne-eqb _ _ (c .if1 .taken))) (λ c κs. search needs) (λ c. rw (eq-eqb _ _ (c .before .before .if1 .left), sym (c .before .well-formed .ensures) ∙ not-true _ (c .if2 .taken))) (λ c κs. search needs) (λ c. search needs) returns-3)

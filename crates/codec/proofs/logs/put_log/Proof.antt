@@ -2,9 +2,6 @@ use borrow.Author.Needs.{needs}
 use Rattle.codec.proofs.logs.put_log.Statement.{statement}
 use Rattle.codec.proofs.logs.put_log.Tie as tie
 
-returns : tie.Need-returns
-returns c = cc
-
 pub put-log-spec : {M : Type 1} → statement M
 put-log-spec =
     tie.close
@@ -14,4 +11,4 @@ put-log-spec =
     (λ c κs. search needs)
     (λ c κs. search needs)
     (λ c. search needs)
-    returns)
+    (λ c. cc))

@@ -2,9 +2,6 @@ use borrow.Author.Needs.{needs}
 use Rattle.codec.proofs.logs.put_three.Statement.{statement}
 use Rattle.codec.proofs.logs.put_three.Tie as tie
 
-returns : tie.Need-returns
-returns c = cc
-
 pub put-three-spec : {M : Type 1} → statement M
 put-three-spec =
     tie.close
@@ -19,4 +16,4 @@ put-three-spec =
     (λ c κs. search needs)
     (λ c κs. search needs)
     (λ c. search needs)
-    returns)
+    (λ c. cc))

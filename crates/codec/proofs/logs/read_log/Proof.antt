@@ -1,39 +1,10 @@
-use mathlib.Core.Path.{refl, sym, ap, _∙_}
-use borrow.Author.Tests.{eq-eqb, ne-eqb, not-true, not-false}
+use mathlib.Core.Path.{sym, ap, _∙_}
+use borrow.Author.Tests.{eq-eqb, ne-eqb}
 use Rattle.codec.specs.Codes.{engineOf}
 use Rattle.codec.specs.Logs.{readLog}
 use borrow.Author.Needs.{needs}
 use Rattle.codec.proofs.logs.read_log.Statement.{statement}
 use Rattle.codec.proofs.logs.read_log.Tie as tie
-
-returns : tie.Need-returns
-unfolding readLog
-returns c = rw (ne-eqb _ _ (c .if1 .taken))
-
-be8-requires : tie.Need-be8-requires
-be8-requires c κs = search needs
-
-returns-2 : tie.Need-returns-2
-unfolding readLog
-returns-2 c = rw (eq-eqb _ _ (c .before .before .if1 .left), ne-eqb _ _ (λ e. c .if2 .taken (c .before .be8 .ensures ∙ e)))
-
-be8-requires-2 : tie.Need-be8-requires-2
-be8-requires-2 c κs = search needs
-
-engine-of-requires : tie.Need-engine-of-requires
-engine-of-requires c κs = search needs
-
-enum-known-e : tie.Need-enum-known-e
-enum-known-e c = search needs
-
-log-at-requires : tie.Need-log-at-requires
-log-at-requires c κs = search needs
-
-checked-log-requires : tie.Need-checked-log-requires
-checked-log-requires c κs = search needs
-
-enum-told : tie.Need-enum-told
-enum-told c = search needs
 
 returns-3 : tie.Need-returns-3
 unfolding readLog
@@ -52,17 +23,18 @@ returns-4 c =
     rw (eq-eqb _ _ (z .before .if1 .left), eq-eqb _ _ (sym (z .be8 .ensures) ∙ b .before .before .if2 .left), letter)
 
 pub read-log-spec : {M : Type 1} → statement M
+unfolding readLog
 read-log-spec =
     tie.close
     (tie.spec
-    returns
-    be8-requires
-    returns-2
-    be8-requires-2
-    engine-of-requires
-    enum-known-e
-    log-at-requires
-    checked-log-requires
-    enum-told
+    (λ c. rw (ne-eqb _ _ (c .if1 .taken)))
+    (λ c κs. search needs)
+    (λ c. rw (eq-eqb _ _ (c .before .before .if1 .left), ne-eqb _ _ (λ e. c .if2 .taken (c .before .be8 .ensures ∙ e))))
+    (λ c κs. search needs)
+    (λ c κs. search needs)
+    (λ c. search needs)
+    (λ c κs. search needs)
+    (λ c κs. search needs)
+    (λ c. search needs)
     returns-3
     returns-4)

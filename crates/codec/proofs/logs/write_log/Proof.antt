@@ -8,23 +8,6 @@ use borrow.Author.Needs.{needs}
 use Rattle.codec.proofs.logs.write_log.Statement.{statement}
 use Rattle.codec.proofs.logs.write_log.Tie as tie
 
-returns : tie.Need-returns
-unfolding writeLog
-returns c = rw (ne-eqb _ _ (c .if1 .taken))
-
-well-formed-requires : tie.Need-well-formed-requires
-well-formed-requires c κs = search needs
-
-returns-2 : tie.Need-returns-2
-unfolding writeLog
-returns-2 c = rw (eq-eqb _ _ (c .before .before .if1 .left), sym (c .before .well-formed .ensures) ∙ not-true _ (c .if2 .taken))
-
-put-log-requires : tie.Need-put-log-requires
-put-log-requires c κs = search needs
-
-same-length : tie.Need-same-length
-same-length c = search needs
-
 returns-3 : tie.Need-returns-3
 unfolding writeLog
 returns-3 c =
@@ -36,6 +19,7 @@ returns-3 c =
     ∙ packInto-eq (logWidths today) (withZero zeroPlace (logNumbers (start .log))) (start .out .now) 0 refl (sym (b .before .before .if1 .left))))
 
 pub write-log-spec : {M : Type 1} → statement M
+unfolding writeLog
 write-log-spec =
     tie.close
-    (tie.spec returns well-formed-requires returns-2 put-log-requires same-length returns-3)
+    (tie.spec (λ c. rw (ne-eqb _ _ (c .if1 .taken))) (λ c κs. search needs) (λ c. rw (eq-eqb _ _ (c .before .before .if1 .left), sym (c .before .well-formed .ensures) ∙ not-true _ (c .if2 .taken))) (λ c κs. search needs) (λ c. search needs) returns-3)

@@ -1,16 +1,7 @@
-use mathlib.Core.Path.{refl, sym, ap, _∙_}
+use mathlib.Core.Path.{sym, _∙_}
 use borrow.Author.Needs.{needs}
 use Rattle.codec.proofs.messages.checked_message.Statement.{statement}
 use Rattle.codec.proofs.messages.checked_message.Tie as tie
 
-well-formed-requires : tie.Need-well-formed-requires
-well-formed-requires c κs = search needs
-
-returns : tie.Need-returns
-returns c = rw (sym (c .before .well-formed .ensures) ∙ c .if1 .taken)
-
-returns-2 : tie.Need-returns-2
-returns-2 c = rw (sym (c .before .well-formed .ensures) ∙ c .if1 .left)
-
 pub checked-message-spec : {M : Type 1} → statement M
-checked-message-spec = tie.close (tie.spec well-formed-requires returns returns-2)
+checked-message-spec = tie.close (tie.spec (λ c κs. search needs) (λ c. rw (sym (c .before .well-formed .ensures) ∙ c .if1 .taken)) (λ c. rw (sym (c .before .well-formed .ensures) ∙ c .if1 .left)))

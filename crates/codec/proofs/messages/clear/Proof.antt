@@ -5,7 +5,7 @@ use borrow.Author.Needs.{needs}
 use native.Mathlib.Omega.{arith}
 use lib.ListN.{length, drop, replicate, length-set, drop-of-length-le}
 use mathlib.Core.List.{_++_, append-nil}
-use mathlib.Core.Path.{_≡_, refl, sym, ap, _∙_}
+use mathlib.Core.Path.{_≡_, refl, _∙_}
 use Prim.Native.Nat.{_≤_, _-_}
 use Rattle.tally.specs.Limits.{today, messageSize}
 use Rattle.codec.specs.Messages.{cleared}
@@ -17,9 +17,6 @@ Inv-loop out₀ i₀ out i = (i ≤ messageSize today) × ((length out ≡ messa
 
 abbrev μ-loop : tie.MeasureT-loop
 μ-loop out₀ i₀ out i = messageSize today - i
-
-loop-holds : tie.Need-loop-holds Inv-loop μ-loop
-loop-holds c = (omega arith, (omega arith, refl))
 
 loop-again : tie.Need-loop-again Inv-loop μ-loop
 loop-again c =
@@ -36,21 +33,18 @@ returns c =
     let short : length out ≤ messageSize today = omega arith in
     rw (eq-eqb (length out) (messageSize today) (c .before .before .if1 .taken)) ((rw (last, drop-of-length-le out short) at (l .inv .1 .1)) ∙ append-nil (replicate (messageSize today) 0))
 
-returns-2 : tie.Need-returns-2 Inv-loop μ-loop
-unfolding cleared
-returns-2 c = simp (ne-eqb _ _ (c .if1 .left))
-
 pub clear-spec : {M : Type 1} → statement M
+unfolding cleared
 clear-spec =
     tie.close
     (tie.spec
     Inv-loop
     μ-loop
-    loop-holds
+    (λ c. (omega arith, (omega arith, refl)))
     (λ c. search needs)
     (λ c. search needs)
     (λ c. search needs)
     loop-again
     (λ c. search needs)
     returns
-    returns-2)
+    (λ c. simp (ne-eqb _ _ (c .if1 .left))))

@@ -2,9 +2,6 @@ use borrow.Author.Needs.{needs}
 use Rattle.codec.proofs.messages.put_message.Statement.{statement}
 use Rattle.codec.proofs.messages.put_message.Tie as tie
 
-returns : tie.Need-returns
-returns c = cc
-
 pub put-message-spec : {M : Type 1} → statement M
 put-message-spec =
     tie.close
@@ -20,4 +17,4 @@ put-message-spec =
     (λ c κs. search needs)
     (λ c κs. search needs)
     (λ c. search needs)
-    returns)
+    (λ c. cc))

@@ -1,6 +1,6 @@
-use mathlib.Core.Path.{_≡_, refl, sym, ap, _∙_}
+use mathlib.Core.Path.{sym, ap, _∙_}
 use lib.ListN.{length}
-use borrow.Author.Tests.{eq-eqb, ne-eqb, not-true, not-false}
+use borrow.Author.Tests.{eq-eqb, ne-eqb}
 use Rattle.codec.specs.Formats.{wrote}
 use Rattle.codec.specs.Messages.{cleared, writeEmpty}
 use Rattle.tally.specs.Limits.{today}
@@ -9,12 +9,6 @@ use borrow.Author.Needs.{needs}
 use Rattle.codec.proofs.messages.write_empty.Statement.{statement}
 use Rattle.codec.proofs.messages.write_empty.Tie as tie
 
-clear-requires : tie.Need-clear-requires
-clear-requires c κs = search needs
-
-same-length : tie.Need-same-length
-same-length c = search needs
-
 returns : tie.Need-returns
 unfolding cleared writeEmpty
 returns c =
@@ -22,9 +16,6 @@ returns c =
     let bs = c .before .before .before .before .before .before .args .out .now in
     let long = ap length cleared-out ∙ length-cleared today bs in
     rw (ne-eqb _ _ (λ e. c .if1 .taken (long ∙ e))) (ap (wrote 1) (cleared-out ∙ rw (ne-eqb _ _ (λ e. c .if1 .taken (long ∙ e)))))
-
-same-length-2 : tie.Need-same-length-2
-same-length-2 c = search needs
 
 returns-2 : tie.Need-returns-2
 unfolding cleared writeEmpty
@@ -35,4 +26,4 @@ returns-2 c =
     rw (eq-eqb _ _ (sym long ∙ c .if1 .left)) (ap (wrote 0) (cleared-out ∙ rw (eq-eqb _ _ (sym long ∙ c .if1 .left))))
 
 pub write-empty-spec : {M : Type 1} → statement M
-write-empty-spec = tie.close (tie.spec clear-requires same-length returns same-length-2 returns-2)
+write-empty-spec = tie.close (tie.spec (λ c κs. search needs) (λ c. search needs) returns (λ c. search needs) returns-2)

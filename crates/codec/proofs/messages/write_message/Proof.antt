@@ -1,4 +1,4 @@
-use mathlib.Core.Path.{_≡_, refl, sym, ap, _∙_}
+use mathlib.Core.Path.{refl, sym, ap, _∙_}
 use lib.ListN.{length}
 use borrow.Author.Tests.{eq-eqb, ne-eqb, not-true, not-false}
 use Rattle.codec.specs.Formats.{wrote, withZero}
@@ -10,12 +10,6 @@ use borrow.Author.Needs.{needs}
 use Rattle.codec.proofs.messages.write_message.Statement.{statement}
 use Rattle.codec.proofs.messages.write_message.Tie as tie
 
-clear-requires : tie.Need-clear-requires
-clear-requires c κs = search needs
-
-same-length : tie.Need-same-length
-same-length c = search needs
-
 returns : tie.Need-returns
 unfolding writeMessage
 returns c =
@@ -24,12 +18,6 @@ returns c =
     let long = ap length cleared-out ∙ length-cleared today bs in
     rw (ne-eqb _ _ (λ e. c .if1 .taken (long ∙ e))) (ap (wrote 1) cleared-out)
 
-well-formed-requires : tie.Need-well-formed-requires
-well-formed-requires c κs = search needs
-
-same-length-2 : tie.Need-same-length-2
-same-length-2 c = search needs
-
 returns-2 : tie.Need-returns-2
 unfolding writeMessage
 returns-2 c =
@@ -37,12 +25,6 @@ returns-2 c =
     let bs = c .before .before .before .before .before .before .before .before .args .out .now in
     let long = ap length cleared-out ∙ length-cleared today bs in
     rw (eq-eqb _ _ (sym long ∙ c .before .before .if1 .left), sym (c .before .well-formed .ensures) ∙ not-true _ (c .if2 .taken)) (ap (wrote 4) cleared-out)
-
-put-message-requires : tie.Need-put-message-requires
-put-message-requires c κs = search needs
-
-same-length-3 : tie.Need-same-length-3
-same-length-3 c = search needs
 
 returns-3 : tie.Need-returns-3
 unfolding writeMessage
@@ -61,12 +43,12 @@ pub write-message-spec : {M : Type 1} → statement M
 write-message-spec =
     tie.close
     (tie.spec
-    clear-requires
-    same-length
+    (λ c κs. search needs)
+    (λ c. search needs)
     returns
-    well-formed-requires
-    same-length-2
+    (λ c κs. search needs)
+    (λ c. search needs)
     returns-2
-    put-message-requires
-    same-length-3
+    (λ c κs. search needs)
+    (λ c. search needs)
     returns-3)

@@ -5,11 +5,8 @@ use borrow.Author.Needs.{needs}
 use Rattle.codec.proofs.numbers.be16.Statement.{statement}
 use Rattle.codec.proofs.numbers.be16.Tie as tie
 
-returns : tie.Need-returns
-unfolding numAt
-returns c = rw (c .before .be8 .ensures, c .be82 .ensures) (simp add-zero (omega arith))
-
 pub be16-spec : {M : Type 1} → statement M
+unfolding numAt
 be16-spec =
     tie.close
     (tie.spec
@@ -20,4 +17,4 @@ be16-spec =
     (λ c κs. search needs)
     (λ c. search needs)
     (λ c. search needs)
-    returns)
+    (λ c. rw (c .before .be8 .ensures, c .be82 .ensures) (simp add-zero (omega arith))))

@@ -5,11 +5,8 @@ use borrow.Author.Needs.{needs}
 use Rattle.codec.proofs.numbers.be32.Statement.{statement}
 use Rattle.codec.proofs.numbers.be32.Tie as tie
 
-returns : tie.Need-returns
-unfolding numAt
-returns c = rw (c .before .be16 .ensures, c .be162 .ensures) (simp (add-zero, add-assoc) (omega arith))
-
 pub be32-spec : {M : Type 1} → statement M
+unfolding numAt
 be32-spec =
     tie.close
     (tie.spec
@@ -20,4 +17,4 @@ be32-spec =
     (λ c κs. search needs)
     (λ c. search needs)
     (λ c. search needs)
-    returns)
+    (λ c. rw (c .before .be16 .ensures, c .be162 .ensures) (simp (add-zero, add-assoc) (omega arith))))

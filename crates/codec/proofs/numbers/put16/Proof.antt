@@ -6,13 +6,7 @@ use borrow.Author.Needs.{needs}
 use Rattle.codec.proofs.numbers.put16.Statement.{statement}
 use Rattle.codec.proofs.numbers.put16.Tie as tie
 
-slice-write-s-2 : tie.Need-slice-write-s-2
-slice-write-s-2 c = simp length-set (omega arith)
-
-returns : tie.Need-returns
-unfolding bytesOf
-returns c = simp towards-suc
-
 pub put16-spec : {M : Type 1} → statement M
+unfolding bytesOf
 put16-spec =
-    tie.close (tie.spec (λ c. search needs) (λ c. search needs) (λ c. search needs) (λ c. search needs) slice-write-s-2 (λ c. search needs) returns)
+    tie.close (tie.spec (λ c. search needs) (λ c. search needs) (λ c. search needs) (λ c. search needs) (λ c. simp length-set (omega arith)) (λ c. search needs) (λ c. simp towards-suc))

@@ -1,13 +1,9 @@
 use native.Mathlib.Nat.{mod-eq-of-lt}
 use Rattle.codec.specs.Numbers.{bytesOf}
-use native.Mathlib.Omega.{arith}
 use borrow.Author.Needs.{needs}
 use Rattle.codec.proofs.numbers.put8.Statement.{statement}
 use Rattle.codec.proofs.numbers.put8.Tie as tie
 
-returns : tie.Need-returns
-unfolding bytesOf
-returns c = simp (mod-eq-of-lt (c .fits .x .fits))
-
 pub put8-spec : {M : Type 1} → statement M
-put8-spec = tie.close (tie.spec (λ c. search needs) (λ c. search needs) returns)
+unfolding bytesOf
+put8-spec = tie.close (tie.spec (λ c. search needs) (λ c. search needs) (λ c. simp (mod-eq-of-lt (c .fits .x .fits))))

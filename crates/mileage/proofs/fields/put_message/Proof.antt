@@ -6,69 +6,6 @@ use borrow.Author.Needs.{needs}
 use Rattle.mileage.proofs.fields.put_message.Statement.{statement}
 use Rattle.mileage.proofs.fields.put_message.Tie as tie
 
-kind-letter-requires : tie.Need-kind-letter-requires
-kind-letter-requires c κs = search needs
-
-wide8-requires : tie.Need-wide8-requires
-wide8-requires c κs = search needs
-
-slice-write-f : tie.Need-slice-write-f
-slice-write-f c = search needs
-
-letter-of-requires : tie.Need-letter-of-requires
-letter-of-requires c κs = search needs
-
-wide8-requires-2 : tie.Need-wide8-requires-2
-wide8-requires-2 c κs = search needs
-
-slice-write-f-2 : tie.Need-slice-write-f-2
-slice-write-f-2 c = search needs
-
-wide8-requires-3 : tie.Need-wide8-requires-3
-wide8-requires-3 c κs = search needs
-
-slice-write-f-3 : tie.Need-slice-write-f-3
-slice-write-f-3 c = search needs
-
-wide8-requires-4 : tie.Need-wide8-requires-4
-wide8-requires-4 c κs = search needs
-
-slice-write-f-4 : tie.Need-slice-write-f-4
-slice-write-f-4 c = search needs
-
-wide8-requires-5 : tie.Need-wide8-requires-5
-wide8-requires-5 c κs = search needs
-
-slice-write-f-5 : tie.Need-slice-write-f-5
-slice-write-f-5 c = simp length-set (omega arith)
-
-wide16-requires : tie.Need-wide16-requires
-wide16-requires c κs = search needs
-
-slice-write-f-6 : tie.Need-slice-write-f-6
-slice-write-f-6 c = simp length-set (omega arith)
-
-wide16-requires-2 : tie.Need-wide16-requires-2
-wide16-requires-2 c κs = search needs
-
-slice-write-f-7 : tie.Need-slice-write-f-7
-slice-write-f-7 c = simp length-set (omega arith)
-
-code-of-requires : tie.Need-code-of-requires
-code-of-requires c κs = search needs
-
-slice-write-f-8 : tie.Need-slice-write-f-8
-slice-write-f-8 c = simp length-set (omega arith)
-
-code-of-requires-2 : tie.Need-code-of-requires-2
-code-of-requires-2 c κs = search needs
-
-slice-write-f-9 : tie.Need-slice-write-f-9
-slice-write-f-9 c = simp length-set (omega arith)
-
-same-length : tie.Need-same-length
-same-length c = simp length-set
-
 returns : tie.Need-returns
 returns c =
     let start = c .before .before .before .before .before .before .before .before .before .before .before .before in
@@ -91,25 +28,25 @@ pub put-message-spec : {M : Type 1} → statement M
 put-message-spec =
     tie.close
     (tie.spec
-    kind-letter-requires
-    wide8-requires
-    slice-write-f
-    letter-of-requires
-    wide8-requires-2
-    slice-write-f-2
-    wide8-requires-3
-    slice-write-f-3
-    wide8-requires-4
-    slice-write-f-4
-    wide8-requires-5
-    slice-write-f-5
-    wide16-requires
-    slice-write-f-6
-    wide16-requires-2
-    slice-write-f-7
-    code-of-requires
-    slice-write-f-8
-    code-of-requires-2
-    slice-write-f-9
-    same-length
+    (λ c κs. search needs)
+    (λ c κs. search needs)
+    (λ c. search needs)
+    (λ c κs. search needs)
+    (λ c κs. search needs)
+    (λ c. search needs)
+    (λ c κs. search needs)
+    (λ c. search needs)
+    (λ c κs. search needs)
+    (λ c. search needs)
+    (λ c κs. search needs)
+    (λ c. simp length-set (omega arith))
+    (λ c κs. search needs)
+    (λ c. simp length-set (omega arith))
+    (λ c κs. search needs)
+    (λ c. simp length-set (omega arith))
+    (λ c κs. search needs)
+    (λ c. simp length-set (omega arith))
+    (λ c κs. search needs)
+    (λ c. simp length-set (omega arith))
+    (λ c. simp length-set)
     returns)

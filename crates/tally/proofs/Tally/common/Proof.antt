@@ -6,12 +6,6 @@ use Rattle.tally.proofs.Tallies.{length-gathered}
 use Rattle.tally.proofs.Tally.common.Statement.{statement}
 use Rattle.tally.proofs.Tally.common.Tie as tie
 
-returns : tie.Need-returns
-returns c = rw (common-counted, sym (c .before .before .lowest .ensures) ∙ c .enum-told .given .1)
-
-returns-2 : tie.Need-returns-2
-returns-2 c = rw (common-counted, sym (c .before .before .lowest .ensures) ∙ c .enum-told2 .given .1)
-
 returns-3 : tie.Need-returns-3
 returns-3 c =
     let b = c .before .before in
@@ -38,7 +32,7 @@ common-spec =
     (λ c. search needs)
     (λ c κs. search needs)
     (λ c κs. search needs)
-    returns
-    returns-2
+    (λ c. rw (common-counted, sym (c .before .before .lowest .ensures) ∙ c .enum-told .given .1))
+    (λ c. rw (common-counted, sym (c .before .before .lowest .ensures) ∙ c .enum-told2 .given .1))
     returns-3
     returns-4)

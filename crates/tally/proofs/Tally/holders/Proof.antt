@@ -17,10 +17,6 @@ Inv-loop self v n₀ s₀ n s = (s ≤ senders) × ((n ≤ s) × (n + passing (h
 abbrev μ-loop : tie.MeasureT-loop
 μ-loop self v n₀ s₀ n s = senders - s
 
-loop-holds : tie.Need-loop-holds Inv-loop μ-loop
-unfolding holders gathered
-loop-holds c = (omega arith, (omega arith, omega arith))
-
 loop-again : tie.Need-loop-again Inv-loop μ-loop
 loop-again c =
     let l = c .before .before .before .before .loop in
@@ -43,12 +39,13 @@ returns c =
     omega arith
 
 pub holders-spec : {M : Type 1} → statement M
+unfolding gathered holders
 holders-spec =
     tie.close
     (tie.spec
     Inv-loop
     μ-loop
-    loop-holds
+    (λ c. (omega arith, (omega arith, omega arith)))
     (λ c κs. search needs)
     (λ c κs. search needs)
     (λ c. search needs)

@@ -1,5 +1,5 @@
 -- The invariant: the lowest is among those still to come. Assumes nothing.
-use Prim.Native.Nat.{_+_, _-_, _≤_}
+use Prim.Native.Nat.{_-_, _≤_}
 use mathlib.Core.Path.{_≡_, refl, sym, ap, _∙_}
 use native.Mathlib.Omega.{arith}
 use borrow.Author.Needs.{needs}
@@ -15,10 +15,6 @@ Inv-loop self s₀ s = (s ≤ senders) × (first isSome (rest self s) ≡ lowest
 
 abbrev μ-loop : tie.MeasureT-loop
 μ-loop self s₀ s = senders - s
-
-loop-holds : tie.Need-loop-holds Inv-loop μ-loop
-unfolding lowest gathered
-loop-holds c = (omega arith, refl)
 
 returns : tie.Need-returns Inv-loop μ-loop
 returns c =
@@ -43,12 +39,13 @@ returns-2 c =
     rw e at (c .before .loop .inv .1)
 
 pub lowest-spec : {M : Type 1} → statement M
+unfolding gathered lowest
 lowest-spec =
     tie.close
     (tie.spec
     Inv-loop
     μ-loop
-    loop-holds
+    (λ c. (omega arith, refl))
     (λ c κs. search needs)
     (λ c κs. search needs)
     returns

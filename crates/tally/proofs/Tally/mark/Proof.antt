@@ -5,9 +5,6 @@ use Rattle.tally.specs.Tally.{mark}
 use Rattle.tally.proofs.Tally.mark.Statement.{statement}
 use Rattle.tally.proofs.Tally.mark.Tie as tie
 
-returns : tie.Need-returns
-unfolding mark
-returns c = simp (one-mul, mod-eq-of-lt (pow-lt (c .before .before .pre)))
-
 pub mark-spec : {M : Type 1} → statement M
-mark-spec = tie.close (tie.spec (λ c. search needs) (λ c. search needs) (λ c. search needs) returns)
+unfolding mark
+mark-spec = tie.close (tie.spec (λ c. search needs) (λ c. search needs) (λ c. search needs) (λ c. simp (one-mul, mod-eq-of-lt (pow-lt (c .before .before .pre)))))
