@@ -8,29 +8,31 @@ use native.Mathlib.Omega.{arith}
 use lib.ListN.{length, getD, take, drop, replicate, length-append, length-drop, length-map, take-append-drop}
 use lib.Seq.{take-at, drop-at, getD-take, length-take-le}
 use Rattle.tally.specs.Limits.{Limits, today, logSize, imageSize, logFields, senders}
-use Rattle.tally.specs.Tally.{blankCell, isMarked, placed}
+use Rattle.tally.specs.Tally.{Typed, blankCell, isMarked, placed}
 use Rattle.tally.specs.declared.Cell.{Cell}
 use Rattle.tally.specs.declared.Engine.{Engine}
 use Rattle.tally.specs.declared.Tally.{Tally}
+use Rattle.tally.specs.Refusal.{numberOf}
+use Rattle.tally.specs.declared.Refusal.{Refusal}
 use Rattle.tally.proofs.Bounds.{Sane}
 use Rattle.contents.specs.Estimates.{isB}
-use Rattle.contents.specs.Images.{logOf as recordOf, imageOk}
+use Rattle.contents.specs.Images.{imageLog, imageOk}
 use Rattle.contents.specs.Logs.{logOk}
 use Rattle.contents.specs.declared.Image.{Image}
 use Rattle.contents.proofs.Facts.{Known, TallyFacts, image-facts, known-place}
 use Rattle.codec.specs.Codes.{engineOf}
-use Rattle.codec.specs.Formats.{withZero}
+use Rattle.codec.specs.Formats.{reading, withZero}
 use Rattle.codec.specs.Images.{cellOf, cellCode, tallyWidths, tallyNumbers, tallyOf, tallyFields}
-use Rattle.codec.specs.Images.{imageWidths, imageNumbers, imageOf, withTallies, letterRead, parseImage, imageFormat, imageBytes, readImage, writeImage}
-use Rattle.codec.specs.Logs.{logWidths, zeroPlace, logNumbers}
-use Rattle.codec.specs.Numbers.{total, packInto}
+use Rattle.codec.specs.Images.{TypedImage, imageWidths, imageNumbers, imageOf, withTallies, parseImage, imageRow, imageFormat, imageBytes, readImage, writeImage}
+use Rattle.codec.specs.Logs.{logWidths, logZero, logNumbers}
+use Rattle.codec.specs.Numbers.{Bytes, total, packInto}
 use Rattle.codec.specs.RoundTrip.{RoundTrip}
 use Rattle.codec.specs.declared.EngineRead.{EngineRead}
 use Rattle.codec.specs.declared.EngineRead.the-variants.{Is, Unknown}
-use Rattle.codec.proofs.Letters.{apart, engine-letter, code-estimate, estimate-code, code-fits}
+use Rattle.codec.proofs.Letters.{engine-letter, made, code-estimate, estimate-code, code-fits}
 use Rattle.codec.proofs.LogFormat as log
-use Rattle.codec.proofs.RoundTrips.{Lawful, round-trip}
-use Rattle.codec.proofs.Rows.{Fit, fit-append, packInto-append, packInto-eq}
+use Rattle.codec.proofs.RoundTrips.{Lawful, round-trip, read-parsed}
+use Rattle.codec.proofs.Rows.{Fit, num-fits, fit-append, packInto-append, packInto-eq}
 
 length-tally : (t : Tally) → length (t .cells) ≡ senders → length (tallyNumbers t) ≡ length tallyWidths
 length-tally t e = ap suc (length-map (t .cells) cellCode ∙ e)
@@ -38,25 +40,17 @@ length-tally t e = ap suc (length-map (t .cells) cellCode ∙ e)
 -- a log and two tallies stored one after the other, from the front to the end, are an image's bytes
 pub image-stored : (bs : List ℕ) (i : Image) → length (i .checks .cells) ≡ senders → length (i .seconds .cells) ≡ senders → length bs ≡ imageSize today
     → packInto
-    (packInto (packInto bs 0 (logWidths today) (withZero zeroPlace (logNumbers (recordOf i)))) (logSize today) tallyWidths (tallyNumbers (i .checks)))
+    (packInto (packInto bs 0 (logWidths today) (withZero logZero (logNumbers (imageLog i)))) (logSize today) tallyWidths (tallyNumbers (i .checks)))
     (logSize today + total tallyWidths) tallyWidths (tallyNumbers (i .seconds))
     ≡ imageBytes today i
 unfolding imageBytes
 image-stored bs i c s size =
-    let row = withZero zeroPlace (logNumbers (recordOf i)) in
+    let row = withZero logZero (logNumbers (imageLog i)) in
     let rest = tallyNumbers (i .checks) ++ tallyNumbers (i .seconds) in
     sym
     (packInto-append (logWidths today) (tallyWidths ++ tallyWidths) row rest bs 0 refl
     ∙ packInto-append tallyWidths tallyWidths (tallyNumbers (i .checks)) (tallyNumbers (i .seconds)) (packInto bs 0 (logWidths today) row) (logSize today) (length-tally (i .checks) c))
     ∙ packInto-eq (imageWidths today) (row ++ rest) bs 0 (simp (length-append, length-tally (i .checks) c, length-tally (i .seconds) s)) (sym size)
-
--- what the types of a tally's fields say: 16-bit marks and sixteen estimates
-pub record Typed (t : Tally) : Type 0 where
-  pub marks : t .marks < 256 ^ 2
-  pub sixteen : length (t .cells) ≡ senders
-
-abbrev pub TypedImage : Image → Type 0
-TypedImage i = Typed (i .checks) × Typed (i .seconds)
 
 -- any numbers are some cells'
 codes-cells : (vs : List ℕ) → map cellCode (map cellOf vs) ≡ vs
@@ -99,13 +93,13 @@ module _ (l : Limits) (sane : Sane l) where
   module _ (split : Bool) (g : Engine) (n : ℕ) (t : Tally) (f : TallyFacts l split g n t) (typed : Typed t) where
     known : AllKnown (t .cells)
     unfolding AllKnown
-    known s h = let b : s < senders = omega (arith, typed .sixteen) in known-place l split n s (isMarked (t .marks) s) (placed t s) (f .places s b)
+    known s h = let b : s < senders = omega (arith, typed .cells) in known-place l split n s (isMarked (t .marks) s) (placed t s) (f .places s b)
 
     tally-back : tallyOf (tallyNumbers t) ≡ t
     tally-back = rw (cells-codes (t .cells) known)
 
     tally-fit : Fit tallyWidths (tallyNumbers t)
-    tally-fit = (typed .marks, rw (typed .sixteen) at (cells-fit (t .cells) known))
+    tally-fit = (omega (arith, typed .marks), rw (typed .cells) at (cells-fit (t .cells) known))
 
   parsed : (i : Image) → TypedImage i → imageOk l i ≡ true → parseImage (imageNumbers i) ≡ some i
   parsed i t ok =
@@ -113,19 +107,19 @@ module _ (l : Limits) (sane : Sane l) where
       let g = i .settings .engine in
       let c = tallyNumbers (i .checks) in
       let s = tallyNumbers (i .seconds) in
-      let len : length c ≡ tallyFields = length-tally (i .checks) (t .0 .sixteen) in
+      let len : length c ≡ tallyFields = length-tally (i .checks) (t .0 .cells) in
       rw (engine-letter g)
-      (ap (λ r. some (withTallies r (tallyOf (take tallyFields (c ++ s))) (tallyOf (drop tallyFields (c ++ s))))) (log.of-numbers l sane (recordOf i) (f .log))
-      ∙ ap₂ (λ x y. some (withTallies (recordOf i) x y))
+      (ap (λ r. some (withTallies r (tallyOf (take tallyFields (c ++ s))) (tallyOf (drop tallyFields (c ++ s))))) (log.of-numbers l sane (imageLog i) (f .log))
+      ∙ ap₂ (λ x y. some (withTallies (imageLog i) x y))
       (ap tallyOf (take-at c s tallyFields len) ∙ tally-back false g (i .settings .n) (i .checks) (f .checks) (t .0))
       (ap tallyOf (drop-at c s tallyFields len) ∙ tally-back (isB g) g (i .settings .n) (i .seconds) (f .seconds) (t .1)))
 
-  fits : (i : Image) → TypedImage i → imageOk l i ≡ true → Fit (imageWidths l) (withZero zeroPlace (imageNumbers i))
+  fits : (i : Image) → TypedImage i → imageOk l i ≡ true → Fit (imageWidths l) (withZero logZero (imageNumbers i))
   fits i t ok =
       let f = image-facts l i ok in
       let g = i .settings .engine in
-      fit-append (logWidths l) (tallyWidths ++ tallyWidths) (withZero zeroPlace (logNumbers (recordOf i))) (tallyNumbers (i .checks) ++ tallyNumbers (i .seconds))
-      (log.fits l sane (recordOf i) (f .log))
+      fit-append (logWidths l) (tallyWidths ++ tallyWidths) (withZero logZero (logNumbers (imageLog i))) (tallyNumbers (i .checks) ++ tallyNumbers (i .seconds))
+      (log.fits l sane (imageLog i) (f .log))
       (fit-append tallyWidths tallyWidths (tallyNumbers (i .checks)) (tallyNumbers (i .seconds))
       (tally-fit false g (i .settings .n) (i .checks) (f .checks) (t .0))
       (tally-fit (isB g) g (i .settings .n) (i .seconds) (f .seconds) (t .1)))
@@ -139,17 +133,20 @@ module _ (l : Limits) (sane : Sane l) where
         placed = omega arith;
         refuses = λ e. omega arith;
         unread = refl;
-        each = λ i t. simp (length-append, length-tally (i .checks) (t .0 .sixteen), length-tally (i .seconds) (t .1 .sixteen));
+        each = λ i t. simp (length-append, length-tally (i .checks) (t .0 .cells), length-tally (i .seconds) (t .1 .cells));
         fit = fits;
         parsed = parsed;
-        back = λ vs i len e. back vs i len (engineOf (getD vs 0 0)) refl e;
+        back = λ vs i len e. made (λ i. imageNumbers i ≡ vs) imageOf vs i (getD vs 0 0) (λ g p. numbers-image g vs len p) e;
       }
-    where
-      back : (vs : List ℕ) (i : Image) → length vs ≡ logFields + tallyFields + tallyFields → (o : EngineRead) → engineOf (getD vs 0 0) ≡ o
-          → letterRead o vs ≡ some i → imageNumbers i ≡ vs
-      back vs i len (Is e) p h = let same : imageOf e vs ≡ i = cc in rw (← same) (numbers-image e vs len p)
-      back vs i len Unknown p h = apart cc
 
-  pub image-round-trip : RoundTrip TypedImage (imageOk l) (imageSize l) (readImage l) (writeImage l)
+  pub image-round-trip : RoundTrip TypedImage (imageOk l) (numberOf Refusal.Image) (imageSize l) (readImage l) (writeImage l)
   unfolding readImage writeImage
   image-round-trip = round-trip (imageFormat l) TypedImage lawful (λ bs. bs)
+
+-- what is read has the code's types
+pub read-typed : (l : Limits) (sane : Sane l) (bs : List ℕ) (i : Image) → Bytes bs → readImage l bs ≡ reading 0 i → TypedImage i
+unfolding readImage
+read-typed l sane bs i b e =
+    made TypedImage imageOf (imageRow l bs) i (getD (imageRow l bs) 0 0)
+    (λ g p. (record { marks = num-fits 2 _ bs b; cells = refl }, record { marks = num-fits 2 _ bs b; cells = refl }))
+    (read-parsed (imageFormat l) TypedImage (lawful l sane) bs i e)

@@ -4,6 +4,7 @@ use mathlib.Core.Bool.{Bool, true, false, cond}
 use mathlib.Core.List.{List, [], _∷_}
 use Prim.Native.Nat.{ℕ, zero, suc, _<_, _^_}
 use native.Mathlib.Omega.{arith}
+use mathlib.Core.Option.{some}
 use lib.Dec.{eqb}
 use lib.ListN.{length, getD}
 use borrow.Author.Tests.{ne-eqb, eqb-true}
@@ -12,17 +13,14 @@ use Rattle.tally.specs.declared.Engine.{Engine}
 use Rattle.tally.specs.declared.Engine.the-variants.{B, R}
 use Rattle.tally.specs.declared.Estimate.{Estimate}
 use Rattle.tally.specs.declared.Estimate.the-variants.{Blank, Split, Mileage}
+use Rattle.tally.proofs.Never.{never}
 use Rattle.tally.proofs.Bounds.{Sane, split-below-blank, blank-fits}
 use Rattle.contents.specs.declared.Kind.{Kind}
 use Rattle.contents.specs.declared.Kind.the-variants.{Empty, First, Check, Second, Skip}
 use Rattle.contents.proofs.Facts.{Known}
-use Rattle.codec.specs.Codes.{letterOf, engineOf, kindLetter, kindOf, codeOf, estimateOf}
+use Rattle.codec.specs.Codes.{letterOf, engineOf, withEngine, kindLetter, kindOf, codeOf, estimateOf}
 use Rattle.codec.specs.declared.EngineRead.{EngineRead}
 use Rattle.codec.specs.declared.KindRead.{KindRead}
-
--- two different constructors are never equal: `cc` shows 0 ≡ 1
-pub apart : {A : Type 0} → _≡_ {A = ℕ} 0 1 → A
-apart h = let f : ⊥ = omega arith in absurd f
 
 pub engine-letter : (e : Engine) → engineOf (letterOf e) ≡ EngineRead.Is e
 engine-letter B = refl
@@ -39,7 +37,16 @@ letter-engine x e h = go (eqb x (letterOf B)) (eqb x (letterOf R)) refl refl h
         → cond t (EngineRead.Is B) (cond u (EngineRead.Is R) EngineRead.Unknown) ≡ EngineRead.Is e → letterOf e ≡ x
     go true u p q r = let i : B ≡ e = cc in rw (← i) (sym (eqb-true _ _ p))
     go false true p q r = let i : R ≡ e = cc in rw (← i) (sym (eqb-true _ _ q))
-    go false false p q r = apart cc
+    go false false p q r = never cc
+
+-- what holds of the contents that each engine makes of numbers holds of those that were made
+pub made : {A : Type 0} (P : A → Type 0) (make : Engine → List ℕ → A) (vs : List ℕ) (a : A) (x : ℕ)
+    → ((e : Engine) → engineOf x ≡ EngineRead.Is e → P (make e vs)) → withEngine make (engineOf x) vs ≡ some a → P a
+made P make vs a x f h = go (engineOf x) refl h
+  where
+    go : (o : EngineRead) → engineOf x ≡ o → withEngine make o vs ≡ some a → P a
+    go (EngineRead.Is e) p h = let same : make e vs ≡ a = cc in rw (← same) (f e p)
+    go EngineRead.Unknown p h = never cc
 
 -- a kind's letter is read as the kind, unless it is the empty message's
 pub kind-letter : (k : Kind) → (k ≡ Empty → ⊥) → kindOf (kindLetter k) ≡ KindRead.Is k
@@ -66,7 +73,7 @@ letter-kind x k h = go (eqb x (kindLetter First)) (eqb x (kindLetter Check)) (eq
     go false true v w p q r s e = let i : Check ≡ k = cc in rw (← i) (sym (eqb-true _ _ q))
     go false false true w p q r s e = let i : Second ≡ k = cc in rw (← i) (sym (eqb-true _ _ r))
     go false false false true p q r s e = let i : Skip ≡ k = cc in rw (← i) (sym (eqb-true _ _ s))
-    go false false false false p q r s e = apart cc
+    go false false false false p q r s e = never cc
 
 -- any number is some estimate's
 pub code-estimate : (x : ℕ) → codeOf (estimateOf x) ≡ x

@@ -1,4 +1,5 @@
 pub mod Rows
+pub mod Steps
 pub mod RoundTrips
 pub mod Letters
 pub mod LogFormat

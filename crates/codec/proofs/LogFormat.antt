@@ -8,17 +8,19 @@ use native.Mathlib.Omega.{arith}
 use lib.ListN.{length, getD}
 use Rattle.tally.specs.Limits.{Limits, logSize, logFields}
 use Rattle.tally.specs.declared.Engine.{Engine}
+use Rattle.tally.specs.Refusal.{numberOf}
+use Rattle.tally.specs.declared.Refusal.{Refusal}
 use Rattle.tally.proofs.Bounds.{Sane, entry-fits, units-fit, everyone-fits}
 use Rattle.contents.specs.Logs.{logOk}
 use Rattle.contents.specs.declared.Log.{Log}
 use Rattle.contents.proofs.Facts.{log-facts, known-or-blank, known-second}
 use Rattle.codec.specs.Codes.{engineOf}
 use Rattle.codec.specs.Formats.{withZero}
-use Rattle.codec.specs.Logs.{logWidths, zeroPlace, logNumbers, logOf, letterRead, logFormat, readLog, writeLog}
+use Rattle.codec.specs.Logs.{logWidths, logZero, logNumbers, logOf, logFormat, readLog, writeLog}
 use Rattle.codec.specs.RoundTrip.{RoundTrip}
 use Rattle.codec.specs.declared.EngineRead.{EngineRead}
 use Rattle.codec.specs.declared.EngineRead.the-variants.{Is, Unknown}
-use Rattle.codec.proofs.Letters.{apart, engine-letter, letter-fits, letter-engine, code-estimate, estimate-code, code-fits, listed}
+use Rattle.codec.proofs.Letters.{engine-letter, letter-fits, letter-engine, made, code-estimate, estimate-code, code-fits, listed}
 use Rattle.codec.proofs.RoundTrips.{Lawful, round-trip}
 use Rattle.codec.proofs.Rows.{Fit}
 
@@ -38,7 +40,7 @@ module _ (l : Limits) (sane : Sane l) where
         estimate-code l sane (r .state .second) (known-second l (r .settings .engine) (r .state .second) (s .second)),
       )
 
-  pub fits : (r : Log) → logOk l r ≡ true → Fit (logWidths l) (withZero zeroPlace (logNumbers r))
+  pub fits : (r : Log) → logOk l r ≡ true → Fit (logWidths l) (withZero logZero (logNumbers r))
   fits r ok =
       let f = log-facts l r ok in
       let s = f .state in
@@ -84,13 +86,9 @@ module _ (l : Limits) (sane : Sane l) where
         each = λ r t. refl;
         fit = λ r t ok. fits r ok;
         parsed = λ r t ok. rw (engine-letter (r .settings .engine), of-numbers r ok);
-        back = λ vs r len e. back vs r len (engineOf (getD vs 0 0)) refl e;
+        back = λ vs r len e. made (λ r. logNumbers r ≡ vs) logOf vs r (getD vs 0 0) (λ g p. numbers-of g vs len p) e;
       }
-    where
-      back : (vs : List ℕ) (r : Log) → length vs ≡ logFields → (o : EngineRead) → engineOf (getD vs 0 0) ≡ o → letterRead o vs ≡ some r → logNumbers r ≡ vs
-      back vs r len (Is e) p h = let same : logOf e vs ≡ r = cc in rw (← same) (numbers-of e vs len p)
-      back vs r len Unknown p h = apart cc
 
-  pub log-round-trip : RoundTrip (λ r. Unit) (logOk l) (logSize l) (readLog l) (writeLog l)
+  pub log-round-trip : RoundTrip (λ r. Unit) (logOk l) (numberOf Refusal.Log) (logSize l) (readLog l) (writeLog l)
   unfolding readLog writeLog
   log-round-trip = round-trip (logFormat l) (λ r. Unit) lawful (λ bs. bs)

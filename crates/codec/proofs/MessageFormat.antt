@@ -7,22 +7,24 @@ use mathlib.Core.Option.{some}
 use native.Mathlib.Omega.{arith}
 use lib.ListN.{length, getD}
 use Rattle.tally.specs.Limits.{Limits, messageSize, messageFields}
+use Rattle.tally.specs.Refusal.{numberOf}
+use Rattle.tally.specs.declared.Refusal.{Refusal}
 use Rattle.tally.proofs.Bounds.{Sane, entry-fits, units-fit, everyone-fits}
 use Rattle.contents.specs.Messages.{kindOk, messageOk}
 use Rattle.contents.specs.declared.Kind.{Kind}
 use Rattle.contents.specs.declared.Kind.the-variants.{Empty}
 use Rattle.contents.specs.declared.Message.{Message}
 use Rattle.contents.proofs.Facts.{message-facts}
-use Rattle.contents.proofs.Tests.{never}
+use Rattle.tally.proofs.Never.{never}
 use Rattle.codec.specs.Codes.{engineOf, kindOf}
 use Rattle.codec.specs.Formats.{withZero}
-use Rattle.codec.specs.Messages.{messageWidths, zeroPlace, messageNumbers, messageOf, lettersRead, parseMessage, cleared, messageFormat, readMessage, writeMessage}
+use Rattle.codec.specs.Messages.{messageWidths, messageZero, messageNumbers, messageOf, lettersRead, parseMessage, cleared, messageFormat, readMessage, writeMessage}
 use Rattle.codec.specs.RoundTrip.{RoundTrip}
 use Rattle.codec.specs.declared.EngineRead.{EngineRead}
 use Rattle.codec.specs.declared.EngineRead.the-variants.{Is, Unknown}
 use Rattle.codec.specs.declared.KindRead.{KindRead}
 use Rattle.codec.specs.declared.KindRead.the-variants.{Is as KindIs, Unknown as KindUnknown}
-use Rattle.codec.proofs.Letters.{apart, engine-letter, letter-fits, letter-engine, kind-letter, kind-fits, letter-kind, code-estimate, estimate-code, code-fits, listed}
+use Rattle.codec.proofs.Letters.{engine-letter, letter-fits, letter-engine, kind-letter, kind-fits, letter-kind, code-estimate, estimate-code, code-fits, listed}
 use Rattle.codec.proofs.RoundTrips.{Lawful, round-trip}
 use Rattle.codec.proofs.Rows.{Fit}
 
@@ -32,7 +34,7 @@ unfolding kindOk
 not-empty l k m h e = never (rw e at h)
 
 module _ (l : Limits) (sane : Sane l) where
-  fits : (m : Message) → messageOk l m ≡ true → Fit (messageWidths l) (withZero zeroPlace (messageNumbers m))
+  fits : (m : Message) → messageOk l m ≡ true → Fit (messageWidths l) (withZero messageZero (messageNumbers m))
   fits m ok =
       let f = message-facts l m ok in
       let n = f .numbers in
@@ -99,9 +101,9 @@ module _ (l : Limits) (sane : Sane l) where
           rw (← same)
           (rw (letter-kind (getD vs 0 0) k p, letter-engine (getD vs 1 0) e q, code-estimate (getD vs 7 0), code-estimate (getD vs 8 0))
           (listed messageFields vs len))
-      back vs m len (KindIs k) Unknown p q h = apart cc
-      back vs m len KindUnknown o p q h = apart cc
+      back vs m len (KindIs k) Unknown p q h = never cc
+      back vs m len KindUnknown o p q h = never cc
 
-  pub message-round-trip : RoundTrip (λ m. Unit) (messageOk l) (messageSize l) (readMessage l) (writeMessage l)
+  pub message-round-trip : RoundTrip (λ m. Unit) (messageOk l) (numberOf Refusal.Message) (messageSize l) (readMessage l) (writeMessage l)
   unfolding readMessage writeMessage
   message-round-trip = round-trip (messageFormat l) (λ m. Unit) lawful (cleared l)

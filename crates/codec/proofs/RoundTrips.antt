@@ -9,9 +9,13 @@ use lib.Dec.{eqb}
 use lib.ListN.{length, getD, take, drop, length-append, length-drop, take-append-drop}
 use lib.Seq.{take-at, drop-at, getD-at, split-at, append-snoc, length-take-le}
 use borrow.Author.Tests.{eq-eqb, ne-eqb, eqb-true}
-use Rattle.codec.specs.Formats.{Reading, reading, wrote, Format, withZero, without, checked, fromNumbers, fromRow, readBytes, toBytes, writeBytes}
-use Rattle.codec.specs.Numbers.{Bytes, total, unpack}
+use Rattle.codec.specs.Formats.{Reading, reading, Wrote, wrote, Format, withZero, without, rowNumbers, zeroByte, checked, fromNumbers, readBytes, toBytes, writeBytes}
+use Rattle.codec.specs.Numbers.{Bytes, total, unpack, pack}
 use Rattle.codec.specs.RoundTrip.{RoundTrip}
+use Rattle.tally.specs.Refusal.{numberOf}
+use Rattle.tally.specs.declared.Refusal.the-variants.{Length}
+use Rattle.tally.proofs.Never.{never}
+use Rattle.codec.proofs.Steps.{read-row, write-malformed, write-contents}
 use Rattle.codec.proofs.Rows.{Fit, length-pack, length-unpack, unpack-pack, pack-unpack}
 
 -- ---- the zero byte
@@ -60,86 +64,89 @@ module _ {A : Type 0} (f : Format A) (Typed : A → Type 0) (law : Lawful f Type
   pub from-numbers : (a : A) → Typed a → f .ok a ≡ true → fromNumbers f (f .numbers a) ≡ reading 0 a
   from-numbers a t ok = rw (law .parsed a t ok, ok)
 
-  -- what is read from numbers is well formed and has these numbers
-  pub numbers-back : (vs : List ℕ) (a : A) → length vs ≡ f .fields → fromNumbers f vs ≡ reading 0 a → (f .ok a ≡ true) × (f .numbers a ≡ vs)
-  numbers-back vs a len e = go (f .parse vs) refl e
+  -- what is read from numbers is well formed, and what they were parsed as
+  from-parsed : (vs : List ℕ) (a : A) → fromNumbers f vs ≡ reading 0 a → (f .ok a ≡ true) × (f .parse vs ≡ some a)
+  from-parsed vs a e = go (f .parse vs) refl e
     where
-      go : (o : Option A) → f .parse vs ≡ o → checked f o ≡ reading 0 a → (f .ok a ≡ true) × (f .numbers a ≡ vs)
+      go : (o : Option A) → f .parse vs ≡ o → checked f o ≡ reading 0 a → (f .ok a ≡ true) × (f .parse vs ≡ some a)
       go none p e = absurd (law .refuses (ap (λ (r : Reading A). r .number) e))
       go (some b) p e = by (f .ok b) refl e
         where
-          by : (t : Bool) → f .ok b ≡ t → cond t (reading 0 b) (reading (f .malformed) (f .nothing)) ≡ reading 0 a → (f .ok a ≡ true) × (f .numbers a ≡ vs)
-          by true ok e = let same : b ≡ a = ap (λ (r : Reading A). r .contents) e in rw (← same) (ok, law .back vs b len p)
+          by : (t : Bool) → f .ok b ≡ t → cond t (reading 0 b) (reading (f .malformed) (f .nothing)) ≡ reading 0 a → (f .ok a ≡ true) × (f .parse vs ≡ some a)
+          by true ok e = let same : b ≡ a = ap (λ (r : Reading A). r .contents) e in rw (← same) (ok, p)
           by false ok e = absurd (law .refuses (ap (λ (r : Reading A). r .number) e))
+
+  -- and has these numbers
+  pub numbers-back : (vs : List ℕ) (a : A) → length vs ≡ f .fields → fromNumbers f vs ≡ reading 0 a → (f .ok a ≡ true) × (f .numbers a ≡ vs)
+  numbers-back vs a len e = let g = from-parsed vs a e in (g .0, law .back vs a len (g .1))
 
   -- ---- bytes
 
+  -- the bytes of any numbers that fit are read as these numbers
+  pub read-numbers : (vs : List ℕ) → length vs ≡ f .fields → Fit (f .widths) (withZero (f .zeroAt) vs)
+      → readBytes f (pack (f .widths) (withZero (f .zeroAt) vs)) ≡ fromNumbers f vs
+  read-numbers vs len fit =
+      let k = f .zeroAt in
+      let bs = pack (f .widths) (withZero k vs) in
+      let below : k ≤ length vs = omega (arith, law .counted, law .placed) in
+      let row : unpack 0 (f .widths) bs ≡ withZero k vs = unpack-pack (f .widths) (withZero k vs) [] 0 refl fit in
+      read-row f bs (length-pack (f .widths) (withZero k vs) fit ∙ sym (law .sized)) (rw row (zero-there k vs below))
+      ∙ ap (fromNumbers f) (ap (without k) row ∙ without-zero k vs below)
+
   -- reading what was written gives the contents
   pub read-written : (a : A) → Typed a → f .ok a ≡ true → readBytes f (toBytes f a) ≡ reading 0 a
-  read-written a t ok =
-      let k = f .zeroAt in
-      let vs = f .numbers a in
-      let fit = law .fit a t ok in
-      let below : k ≤ length vs = omega (arith, law .counted, law .placed, law .each a t) in
-      let row : unpack 0 (f .widths) (toBytes f a) ≡ withZero k vs = unpack-pack (f .widths) (withZero k vs) [] 0 refl fit in
-      rw (
-        eq-eqb (length (toBytes f a)) (f .size) (length-pack (f .widths) (withZero k vs) fit ∙ sym (law .sized)),
-        row,
-        eq-eqb (getD (withZero k vs) k 0) 0 (zero-there k vs below),
-        without-zero k vs below,
-      )
-      (from-numbers a t ok)
+  read-written a t ok = read-numbers (f .numbers a) (law .each a t) (law .fit a t ok) ∙ from-numbers a t ok
 
   -- the tests that bytes have passed where they are read
   record Passed (bs : List ℕ) (a : A) : Type 0 where
     size : length bs ≡ f .size
-    zero-byte : getD (unpack 0 (f .widths) bs) (f .zeroAt) 0 ≡ 0
-    numbers : fromNumbers f (without (f .zeroAt) (unpack 0 (f .widths) bs)) ≡ reading 0 a
+    zero-byte : zeroByte f bs ≡ 0
+    numbers : fromNumbers f (rowNumbers f bs) ≡ reading 0 a
 
   passed : (bs : List ℕ) (a : A) → readBytes f bs ≡ reading 0 a → Passed bs a
-  passed bs a e = go (eqb (length bs) (f .size)) refl e
+  passed bs a e = go (eqb (length bs) (f .size)) (eqb (zeroByte f bs) 0) refl refl e
     where
-      vs : List ℕ
-      vs = unpack 0 (f .widths) bs
+      go : (t u : Bool) → eqb (length bs) (f .size) ≡ t → eqb (zeroByte f bs) 0 ≡ u
+          → cond t (cond u (fromNumbers f (rowNumbers f bs)) (reading (f .malformed) (f .nothing))) (reading (numberOf Length) (f .nothing)) ≡ reading 0 a
+          → Passed bs a
+      go true true len z e = record { size = eqb-true _ _ len; zero-byte = eqb-true _ _ z; numbers = e }
+      go true false len z e = absurd (law .refuses (ap (λ (r : Reading A). r .number) e))
+      go false u len z e = let one : numberOf Length ≡ 0 = ap (λ (r : Reading A). r .number) e in absurd (omega arith)
 
-      go : (t : Bool) → eqb (length bs) (f .size) ≡ t → cond t (fromRow f vs) (reading 1 (f .nothing)) ≡ reading 0 a → Passed bs a
-      go false len e = let one : _≡_ {A = ℕ} 1 0 = ap (λ (r : Reading A). r .number) e in absurd (omega arith)
-      go true len e = by (eqb (getD vs (f .zeroAt) 0) 0) refl e
-        where
-          by : (t : Bool) → eqb (getD vs (f .zeroAt) 0) 0 ≡ t
-              → cond t (fromNumbers f (without (f .zeroAt) vs)) (reading (f .malformed) (f .nothing)) ≡ reading 0 a → Passed bs a
-          by false z e = absurd (law .refuses (ap (λ (r : Reading A). r .number) e))
-          by true z e = record { size = eqb-true _ _ len; zero-byte = eqb-true _ _ z; numbers = e }
+  -- the zero byte has its place in a row, and the other numbers are the fields
+  in-row : (bs : List ℕ) → f .zeroAt < length (unpack 0 (f .widths) bs)
+  in-row bs = omega (arith, law .placed, length-unpack 0 (f .widths) bs)
+
+  length-row : (bs : List ℕ) → length (rowNumbers f bs) ≡ f .fields
+  length-row bs = omega (arith, law .counted, length-without (f .zeroAt) (unpack 0 (f .widths) bs) (in-row bs), length-unpack 0 (f .widths) bs)
 
   -- what is read is well formed, and has the numbers of the row
-  from-row : (bs : List ℕ) (a : A) → Passed bs a → (f .ok a ≡ true) × (f .numbers a ≡ without (f .zeroAt) (unpack 0 (f .widths) bs))
-  from-row bs a p =
-      let vs = unpack 0 (f .widths) bs in
-      let below : f .zeroAt < length vs = omega (arith, law .placed, length-unpack 0 (f .widths) bs) in
-      let len : length (without (f .zeroAt) vs) ≡ f .fields =
-      omega (arith, law .counted, length-without (f .zeroAt) vs below, length-unpack 0 (f .widths) bs) in
-      numbers-back (without (f .zeroAt) vs) a len (p .numbers)
+  pub read-fields : (bs : List ℕ) (a : A) → readBytes f bs ≡ reading 0 a → (f .ok a ≡ true) × (f .numbers a ≡ rowNumbers f bs)
+  read-fields bs a e = numbers-back (rowNumbers f bs) a (length-row bs) (passed bs a e .numbers)
 
-  -- what is read is well formed, and writing it gives the bytes
+  -- and is what they were parsed as
+  pub read-parsed : (bs : List ℕ) (a : A) → readBytes f bs ≡ reading 0 a → f .parse (rowNumbers f bs) ≡ some a
+  read-parsed bs a e = from-parsed (rowNumbers f bs) a (passed bs a e .numbers) .1
+
+  -- writing what was read gives the bytes
   pub written-read : (bs : List ℕ) (a : A) → Bytes bs → readBytes f bs ≡ reading 0 a → (f .ok a ≡ true) × (toBytes f a ≡ bs)
   written-read bs a b e =
       let p = passed bs a e in
-      let g = from-row bs a p in
+      let g = read-fields bs a e in
       let vs = unpack 0 (f .widths) bs in
-      let below : f .zeroAt < length vs = omega (arith, law .placed, length-unpack 0 (f .widths) bs) in
-      (g .0, rw (g .1, zero-back (f .zeroAt) vs below (p .zero-byte)) (pack-unpack (f .widths) bs 0 b (omega (arith, p .size, law .sized))))
+      (g .0, rw (g .1, zero-back (f .zeroAt) vs (in-row bs) (p .zero-byte)) (pack-unpack (f .widths) bs 0 b (omega (arith, p .size, law .sized))))
 
   -- the number of a refusal is not 0
   pub refused-number : (bs : List ℕ) (k : ℕ) → readBytes f bs ≡ reading k (f .nothing) → eqb k 0 ≡ false
-  refused-number bs k e = ne-eqb k 0 λ z. bad (from-row bs (f .nothing) (passed bs (f .nothing) (rw z at e)) .0)
-    where
-      bad : f .ok (f .nothing) ≡ true → ⊥
-      bad ok = false≢true (sym (law .unread) ∙ ok)
+  refused-number bs k e = ne-eqb k 0 λ z. never (sym (law .unread) ∙ read-fields bs (f .nothing) (rw z at e) .0)
 
-  -- both, of the calls; `kept` is what a refused write leaves
-  pub round-trip : (kept : List ℕ → List ℕ) → RoundTrip Typed (f .ok) (f .size) (readBytes f) (λ a bs. writeBytes f a (kept bs) bs)
+  -- all of it, of the calls; `kept` is what a refused write leaves
+  pub round-trip : (kept : List ℕ → List ℕ) → RoundTrip Typed (f .ok) (f .malformed) (f .size) (readBytes f) (λ a bs. writeBytes f a (kept bs) bs)
   round-trip kept =
       record {
-        back = λ a bs t ok size. rw (eq-eqb (length bs) (f .size) size, ok) (refl, read-written a t ok);
-        same = λ bs a b e out size. let g = written-read bs a b e in rw (eq-eqb (length out) (f .size) size, g .0) (ap (wrote 0) (g .1));
+        back = λ a bs t ok size. rw (write-contents f bs a (kept bs) size ok) (refl, read-written a t ok);
+        same = λ bs a b e out size. let g = written-read bs a b e in write-contents f out a (kept out) size (g .0) ∙ ap (wrote 0) (g .1);
+        refused =
+            λ a bs bad size.
+                (ap (λ (w : Wrote). w .number) (write-malformed f bs a (kept bs) size bad), λ cs e. never (sym bad ∙ read-fields cs a e .0));
       }

@@ -21,6 +21,12 @@ unfolding bytesOf
 length-bytesOf zero x = refl
 length-bytesOf (suc k) x = simp (length-append, length-bytesOf k (x / 256)) (add-one k)
 
+-- a number that was read fits its bytes
+pub num-fits : (k o : ℕ) (bs : List ℕ) → Bytes bs → numAt bs o k < 256 ^ k
+unfolding numAt
+num-fits zero o bs b = omega arith
+num-fits (suc k) o bs b = rw pow-suc (omega (arith, num-fits k o bs b, b (o + k)))
+
 -- what was stored is read back
 pub num-bytes : (k x : ℕ) (p q : List ℕ) (o : ℕ) → length p ≡ o → x < 256 ^ k → numAt (p ++ (bytesOf k x ++ q)) o k ≡ x
 unfolding numAt bytesOf

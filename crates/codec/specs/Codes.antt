@@ -1,6 +1,8 @@
 -- Letters, in ASCII, and estimates as numbers. Assumes nothing.
 use Prim.Native.Nat.{ℕ}
 use mathlib.Core.Bool.{cond}
+use mathlib.Core.List.{List}
+use mathlib.Core.Option.{Option, none, some}
 use lib.Dec.{eqb}
 use Rattle.tally.specs.Limits.{blankCode, splitCode}
 use Rattle.tally.specs.declared.Engine.{Engine}
@@ -19,6 +21,11 @@ letterOf R = 82
 
 abbrev pub engineOf : ℕ → EngineRead
 engineOf x = cond (eqb x (letterOf B)) (EngineRead.Is B) (cond (eqb x (letterOf R)) (EngineRead.Is R) EngineRead.Unknown)
+
+-- contents of numbers, where the engine's letter is known
+abbrev pub withEngine : {A : Type 0} → (Engine → List ℕ → A) → EngineRead → List ℕ → Option A
+withEngine make (EngineRead.Is e) vs = some (make e vs)
+withEngine make EngineRead.Unknown vs = none
 
 -- kinds: F (FIRST), C (CHECK), S (SECOND), K (SKIP); an empty message has a zero here
 abbrev pub kindLetter : Kind → ℕ

@@ -49,6 +49,10 @@ withZero k vs = take k vs ++ (0 ∷ drop k vs)
 abbrev pub without : ℕ → List ℕ → List ℕ
 without k vs = take k vs ++ drop (suc k) vs
 
+-- the numbers that bytes hold, the zero byte left out
+abbrev pub rowNumbers : {A : Type 0} → Format A → List ℕ → List ℕ
+rowNumbers f bs = without (f .zeroAt) (unpack 0 (f .widths) bs)
+
 -- contents are taken where they are known and well formed
 abbrev pub checked : {A : Type 0} → Format A → Option A → Reading A
 checked f none = reading (f .malformed) (f .nothing)
@@ -58,13 +62,16 @@ checked f (some a) = cond (f .ok a) (reading 0 a) (reading (f .malformed) (f .no
 abbrev pub fromNumbers : {A : Type 0} → Format A → List ℕ → Reading A
 fromNumbers f vs = checked f (f .parse vs)
 
--- contents from a row, whose zero byte must be 0
-abbrev pub fromRow : {A : Type 0} → Format A → List ℕ → Reading A
-fromRow f vs = cond (eqb (getD vs (f .zeroAt) 0) 0) (fromNumbers f (without (f .zeroAt) vs)) (reading (f .malformed) (f .nothing))
+-- the byte that must be 0
+abbrev pub zeroByte : {A : Type 0} → Format A → List ℕ → ℕ
+zeroByte f bs = getD (unpack 0 (f .widths) bs) (f .zeroAt) 0
 
--- reading the bytes bs: 1 where their length is wrong
+-- reading the bytes bs: 1 where their length is wrong, malformed where the zero byte is not 0
 abbrev pub readBytes : {A : Type 0} → Format A → List ℕ → Reading A
-readBytes f bs = cond (eqb (length bs) (f .size)) (fromRow f (unpack 0 (f .widths) bs)) (reading (numberOf Length) (f .nothing))
+readBytes f bs =
+    cond (eqb (length bs) (f .size))
+    (cond (eqb (zeroByte f bs) 0) (fromNumbers f (rowNumbers f bs)) (reading (f .malformed) (f .nothing)))
+    (reading (numberOf Length) (f .nothing))
 
 -- the bytes of contents
 abbrev pub toBytes : {A : Type 0} → Format A → A → List ℕ

@@ -5,20 +5,24 @@ use mathlib.Core.Option.{Option, none, some}
 use lib.ListN.{length, getD, take, drop, replicate}
 use Rattle.tally.specs.Limits.{Limits, imageSize, logFields, senders}
 use Rattle.tally.specs.Refusal.{numberOf}
-use Rattle.tally.specs.Tally.{noMarks}
+use Rattle.tally.specs.Tally.{Typed, noMarks}
 use Rattle.tally.specs.declared.Cell.{Cell}
 use Rattle.tally.specs.declared.Engine.{Engine}
 use Rattle.tally.specs.declared.Refusal.{Refusal}
 use Rattle.tally.specs.declared.Tally.{Tally}
-use Rattle.contents.specs.Images.{logOf as recordOf, imageOk}
+use Rattle.contents.specs.Images.{imageLog, imageOk}
 use Rattle.contents.specs.declared.Image.{Image}
 use Rattle.contents.specs.declared.Log.{Log}
-use Rattle.codec.specs.Codes.{engineOf, codeOf, estimateOf}
-use Rattle.codec.specs.Formats.{Reading, reading, Wrote, Format, readBytes, toBytes, writeBytes}
-use Rattle.codec.specs.Logs.{logWidths, zeroPlace, logNumbers, logOf, noLog}
+use Rattle.codec.specs.Codes.{engineOf, withEngine, codeOf, estimateOf}
+use Rattle.codec.specs.Formats.{Reading, reading, Wrote, Format, rowNumbers, readBytes, toBytes, writeBytes}
+use Rattle.codec.specs.Logs.{logWidths, logZero, logNumbers, logOf, noLog}
 use Rattle.codec.specs.declared.EngineRead.{EngineRead}
 use Rattle.codec.specs.declared.EngineRead.the-variants.{Is, Unknown}
 use Rattle.codec.specs.declared.ImageRead.{ImageRead}
+
+-- what the code's types say of an image
+abbrev pub TypedImage : Image → Type 0
+TypedImage i = Typed (i .checks) × Typed (i .seconds)
 
 abbrev pub cellOf : ℕ → Cell
 cellOf x = record { estimate = estimateOf x }
@@ -45,7 +49,7 @@ abbrev pub imageWidths : Limits → List ℕ
 imageWidths l = logWidths l ++ (tallyWidths ++ tallyWidths)
 
 abbrev pub imageNumbers : Image → List ℕ
-imageNumbers i = logNumbers (recordOf i) ++ (tallyNumbers (i .checks) ++ tallyNumbers (i .seconds))
+imageNumbers i = logNumbers (imageLog i) ++ (tallyNumbers (i .checks) ++ tallyNumbers (i .seconds))
 
 -- marks and estimates as numbers
 abbrev pub tallyFields : ℕ
@@ -58,12 +62,8 @@ abbrev pub imageOf : Engine → List ℕ → Image
 imageOf e vs =
     withTallies (logOf e (take logFields vs)) (tallyOf (take tallyFields (drop logFields vs))) (tallyOf (drop tallyFields (drop logFields vs)))
 
-abbrev pub letterRead : EngineRead → List ℕ → Option Image
-letterRead (Is e) vs = some (imageOf e vs)
-letterRead Unknown vs = none
-
 abbrev pub parseImage : List ℕ → Option Image
-parseImage vs = letterRead (engineOf (getD vs 0 0)) vs
+parseImage vs = withEngine imageOf (engineOf (getD vs 0 0)) vs
 
 -- stands in the place of an image that is refused
 abbrev pub noImage : Image
@@ -75,7 +75,7 @@ imageFormat l =
     record {
       size = imageSize l;
       widths = imageWidths l;
-      zeroAt = zeroPlace;
+      zeroAt = logZero;
       fields = logFields + tallyFields + tallyFields;
       numbers = imageNumbers;
       parse = parseImage;
@@ -87,6 +87,10 @@ imageFormat l =
 -- the code's answer, as number and contents
 abbrev pub imageReading : ImageRead → Reading Image
 imageReading r = reading (numberOf (r .refusal)) (r .image)
+
+-- the numbers that bytes hold, the zero byte left out
+abbrev pub imageRow : Limits → List ℕ → List ℕ
+imageRow l bs = rowNumbers (imageFormat l) bs
 
 unfoldable pub readImage : Limits → List ℕ → Reading Image
 readImage l bs = readBytes (imageFormat l) bs

@@ -11,8 +11,8 @@ use Rattle.tally.specs.declared.Estimate.the-variants.{Blank}
 use Rattle.tally.specs.declared.Refusal.{Refusal}
 use Rattle.contents.specs.Logs.{logOk}
 use Rattle.contents.specs.declared.Log.{Log}
-use Rattle.codec.specs.Codes.{letterOf, engineOf, codeOf, estimateOf}
-use Rattle.codec.specs.Formats.{Reading, reading, Wrote, Format, readBytes, toBytes, writeBytes}
+use Rattle.codec.specs.Codes.{letterOf, engineOf, withEngine, codeOf, estimateOf}
+use Rattle.codec.specs.Formats.{Reading, reading, Wrote, Format, rowNumbers, readBytes, toBytes, writeBytes}
 use Rattle.codec.specs.declared.EngineRead.{EngineRead}
 use Rattle.codec.specs.declared.EngineRead.the-variants.{Is, Unknown}
 use Rattle.codec.specs.declared.LogRead.{LogRead}
@@ -22,9 +22,9 @@ use Rattle.codec.specs.declared.LogRead.the-variants.{Read, Refused}
 abbrev pub logWidths : Limits → List ℕ
 logWidths l = 1 ∷ 1 ∷ 1 ∷ 1 ∷ 2 ∷ l .roundWidth ∷ 4 ∷ 4 ∷ 4 ∷ []
 
--- where the zero stands
-abbrev pub zeroPlace : ℕ
-zeroPlace = 3
+-- the zero stands after engine letter, n and unit, in an image too
+abbrev pub logZero : ℕ
+logZero = 3
 
 abbrev pub logNumbers : Log → List ℕ
 logNumbers r =
@@ -44,12 +44,8 @@ logOf e vs =
           };
     }
 
-abbrev pub letterRead : EngineRead → List ℕ → Option Log
-letterRead (Is e) vs = some (logOf e vs)
-letterRead Unknown vs = none
-
 abbrev pub parseLog : List ℕ → Option Log
-parseLog vs = letterRead (engineOf (getD vs 0 0)) vs
+parseLog vs = withEngine logOf (engineOf (getD vs 0 0)) vs
 
 -- stands in the place of a log that is refused
 abbrev pub noLog : Log
@@ -61,7 +57,7 @@ logFormat l =
     record {
       size = logSize l;
       widths = logWidths l;
-      zeroAt = zeroPlace;
+      zeroAt = logZero;
       fields = logFields;
       numbers = logNumbers;
       parse = parseLog;
@@ -75,11 +71,12 @@ abbrev pub logReading : LogRead → Reading Log
 logReading (Read r) = reading 0 r
 logReading (Refused k) = reading (numberOf k) noLog
 
+-- the numbers that bytes hold, the zero byte left out
+abbrev pub logRow : Limits → List ℕ → List ℕ
+logRow l bs = rowNumbers (logFormat l) bs
+
 unfoldable pub readLog : Limits → List ℕ → Reading Log
 readLog l bs = readBytes (logFormat l) bs
-
-unfoldable pub logBytes : Limits → Log → List ℕ
-logBytes l r = toBytes (logFormat l) r
 
 -- a refused log write leaves every byte
 unfoldable pub writeLog : Limits → Log → List ℕ → Wrote

@@ -16,7 +16,7 @@ use Rattle.contents.specs.declared.Kind.{Kind}
 use Rattle.contents.specs.declared.Kind.the-variants.{Empty}
 use Rattle.contents.specs.declared.Message.{Message}
 use Rattle.codec.specs.Codes.{letterOf, engineOf, kindLetter, kindOf, codeOf, estimateOf}
-use Rattle.codec.specs.Formats.{Reading, reading, Wrote, wrote, Format, readBytes, toBytes, writeBytes}
+use Rattle.codec.specs.Formats.{Reading, reading, Wrote, wrote, Format, rowNumbers, readBytes, toBytes, writeBytes}
 use Rattle.codec.specs.declared.EngineRead.{EngineRead}
 use Rattle.codec.specs.declared.EngineRead.the-variants.{Is, Unknown}
 use Rattle.codec.specs.declared.KindRead.{KindRead}
@@ -28,9 +28,9 @@ use Rattle.codec.specs.declared.MessageRead.the-variants.{Read, Refused}
 abbrev pub messageWidths : Limits → List ℕ
 messageWidths l = 1 ∷ 1 ∷ 1 ∷ 1 ∷ 1 ∷ 1 ∷ 2 ∷ l .roundWidth ∷ 4 ∷ 4 ∷ []
 
--- where the zero stands
-abbrev pub zeroPlace : ℕ
-zeroPlace = 5
+-- the zero stands after kind, engine, n, sender and receiver
+abbrev pub messageZero : ℕ
+messageZero = 5
 
 abbrev pub messageNumbers : Message → List ℕ
 messageNumbers m =
@@ -69,7 +69,7 @@ messageFormat l =
     record {
       size = messageSize l;
       widths = messageWidths l;
-      zeroAt = zeroPlace;
+      zeroAt = messageZero;
       fields = messageFields;
       numbers = messageNumbers;
       parse = parseMessage;
@@ -83,13 +83,14 @@ abbrev pub messageReading : MessageRead → Reading Message
 messageReading (Read m) = reading 0 m
 messageReading (Refused k) = reading (numberOf k) noMessage
 
+-- the numbers that bytes hold, the zero byte left out
+abbrev pub messageRow : Limits → List ℕ → List ℕ
+messageRow l bs = rowNumbers (messageFormat l) bs
+
 unfoldable pub readMessage : Limits → List ℕ → Reading Message
 readMessage l bs = readBytes (messageFormat l) bs
 
-unfoldable pub messageBytes : Limits → Message → List ℕ
-messageBytes l m = toBytes (messageFormat l) m
-
--- an empty message is zero bytes
+-- an empty message (the scope paper's term) is zero bytes
 abbrev pub emptyBytes : Limits → List ℕ
 emptyBytes l = replicate (messageSize l) 0
 

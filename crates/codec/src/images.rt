@@ -23,9 +23,9 @@ ghost use Rattle.tally.specs.Limits.{today, imageSize, senders};
 ghost use Rattle.tally.specs.Refusal.{numberOf};
 ghost use Rattle.codec.specs.Numbers.{total, unpack, packInto};
 ghost use Rattle.codec.specs.Formats.{without, wrote, checked};
-ghost use Rattle.codec.specs.Logs.{zeroPlace};
+ghost use Rattle.codec.specs.Logs.{logZero};
 ghost use Rattle.codec.specs.Images.{cellOf, cellCode, cellWidths, tallyWidths, tallyOf, tallyNumbers, noImage};
-ghost use Rattle.codec.specs.Images.{imageWidths, imageOf, imageFormat, imageBytes, imageReading, readImage, writeImage};
+ghost use Rattle.codec.specs.Images.{imageWidths, imageOf, imageRow, imageFormat, imageBytes, imageReading, readImage, writeImage};
 
 // Where the tallies stand, and where a tally's estimates do.
 const AT_CHECKS: usize = limits::LOG_SIZE;
@@ -89,7 +89,7 @@ fn put_tally(t: Tally, out: &mut [u8], at: usize)
 
 fn image_at(engine: Engine, s: &[u8]) -> Image
     requires { ⌜ length (now s) ≡ imageSize today ⌝ }
-    ensures { λ r. ⌜ r ≡ imageOf engine (without zeroPlace (unpack 0 (imageWidths today) (now (s .entry)))) ⌝ }
+    ensures { λ r. ⌜ r ≡ imageOf engine (imageRow today (now (s .entry))) ⌝ }
 {
     let log = logs::log_at(engine, s);
     let settings = log.settings;
@@ -146,7 +146,7 @@ pub fn read_image(s: &[u8]) -> ImageRead
     if s.len() != limits::IMAGE_SIZE {
         return refused(Refusal::Length);
     }
-    if numbers::be8(s, 3) != 0 {
+    if numbers::be8(s, logs::AT_ZERO) != 0 {
         return refused(Refusal::Image);
     }
     match codes::engine_of(numbers::be8(s, 0)) {
@@ -161,7 +161,7 @@ fn put_image(i: Image, out: &mut [u8])
 {
     let checks = i.checks;
     let seconds = i.seconds;
-    logs::put_log(contents::images::log_of(i), out);
+    logs::put_log(contents::images::image_log(i), out);
     put_tally(checks, out, AT_CHECKS);
     put_tally(seconds, out, AT_SECONDS);
 }

@@ -20,9 +20,15 @@ ghost use Rattle.tally.specs.Refusal.{numberOf};
 ghost use Rattle.codec.specs.Numbers.{unpack, packInto};
 ghost use Rattle.codec.specs.Codes.{codeOf};
 ghost use Rattle.codec.specs.Formats.{without, withZero, wrote, checked};
-ghost use Rattle.codec.specs.Logs.{logWidths, zeroPlace, logOf, logNumbers, logFormat, logReading, readLog, writeLog};
+ghost use Rattle.codec.specs.Logs.{logWidths, logZero, logOf, logRow, logNumbers, logFormat, logReading, readLog, writeLog};
 
-// Where the fields stand.
+// Where the fields stand, after the engine letter.
+const AT_N: usize = 1;
+
+const AT_UNIT: usize = 2;
+
+pub(crate) const AT_ZERO: usize = 3;
+
 const AT_ENTRY: usize = 4;
 
 const AT_ROUND: usize = AT_ENTRY + 2;
@@ -36,13 +42,13 @@ const AT_SECOND: usize = AT_FIRST + 4;
 // The contents that the bytes hold, at an engine.
 pub(crate) fn log_at(engine: Engine, s: &[u8]) -> Log
     requires { ⌜ logSize today ≤ length (now s) ⌝ }
-    ensures { λ r. ⌜ r ≡ logOf engine (without zeroPlace (unpack 0 (logWidths today) (now (s .entry)))) ⌝ }
+    ensures { λ r. ⌜ r ≡ logOf engine (logRow today (now (s .entry))) ⌝ }
 {
     Log {
         settings: Settings {
             engine,
-            n: numbers::be8(s, 1),
-            unit: numbers::be8(s, 2),
+            n: numbers::be8(s, AT_N),
+            unit: numbers::be8(s, AT_UNIT),
             entry: numbers::be16(s, AT_ENTRY),
         },
         state: State {
@@ -71,7 +77,7 @@ pub fn read_log(s: &[u8]) -> LogRead
     if s.len() != limits::LOG_SIZE {
         return LogRead::Refused(Refusal::Length);
     }
-    if numbers::be8(s, 3) != 0 {
+    if numbers::be8(s, AT_ZERO) != 0 {
         return LogRead::Refused(Refusal::Log);
     }
     match codes::engine_of(numbers::be8(s, 0)) {
@@ -92,7 +98,7 @@ fn put_three(out: &mut [u8], at: usize, a: Estimate, b: Estimate, c: Estimate)
 
 pub(crate) fn put_log(log: Log, out: &mut [u8])
     requires { ⌜ logSize today ≤ length (now out) ⌝ }
-    ensures { λ _. ⌜ now (out .exit) ≡ packInto (now (out .entry)) 0 (logWidths today) (withZero zeroPlace (logNumbers log)) ⌝ }
+    ensures { λ _. ⌜ now (out .exit) ≡ packInto (now (out .entry)) 0 (logWidths today) (withZero logZero (logNumbers log)) ⌝ }
 {
     let settings = log.settings;
     let state = log.state;
@@ -108,7 +114,7 @@ pub(crate) fn put_log(log: Log, out: &mut [u8])
         settings.unit,
         0,
     );
-    numbers::put_times(out, AT_ENTRY, settings.entry, state.round);
+    numbers::put_entry_round(out, AT_ENTRY, settings.entry, state.round);
     put_three(out, AT_PROPOSAL, proposal, first, second);
 }
 

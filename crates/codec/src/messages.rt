@@ -16,10 +16,18 @@ ghost use Rattle.tally.specs.Limits.{today, messageSize};
 ghost use Rattle.tally.specs.Refusal.{numberOf};
 ghost use Rattle.codec.specs.Numbers.{unpack, packInto};
 ghost use Rattle.codec.specs.Formats.{without, withZero, wrote, checked};
-ghost use Rattle.codec.specs.Messages.{messageWidths, zeroPlace, messageOf, messageNumbers, messageFormat, messageReading, lettersRead};
+ghost use Rattle.codec.specs.Messages.{messageWidths, messageZero, messageOf, messageRow, messageNumbers, messageFormat, messageReading, lettersRead};
 ghost use Rattle.codec.specs.Messages.{cleared, readMessage, writeMessage, writeEmpty};
 
-// Where the fields stand.
+// Where the fields stand, after the letters of kind and engine.
+const AT_N: usize = 2;
+
+const AT_SENDER: usize = 3;
+
+const AT_RECEIVER: usize = 4;
+
+const AT_ZERO: usize = 5;
+
 const AT_ENTRY: usize = 6;
 
 const AT_ROUND: usize = AT_ENTRY + 2;
@@ -31,14 +39,14 @@ const AT_PROPOSAL: usize = AT_ESTIMATE + 4;
 // The contents that the bytes hold, at a kind and an engine.
 fn message_at(kind: Kind, engine: Engine, s: &[u8]) -> Message
     requires { ⌜ length (now s) ≡ messageSize today ⌝ }
-    ensures { λ r. ⌜ r ≡ messageOf kind engine (without zeroPlace (unpack 0 (messageWidths today) (now (s .entry)))) ⌝ }
+    ensures { λ r. ⌜ r ≡ messageOf kind engine (messageRow today (now (s .entry))) ⌝ }
 {
     Message {
         kind,
         engine,
-        n: numbers::be8(s, 2),
-        sender: numbers::be8(s, 3),
-        receiver: numbers::be8(s, 4),
+        n: numbers::be8(s, AT_N),
+        sender: numbers::be8(s, AT_SENDER),
+        receiver: numbers::be8(s, AT_RECEIVER),
         entry: numbers::be16(s, AT_ENTRY),
         round: numbers::round_at(s, AT_ROUND),
         estimate: codes::estimate_of(numbers::be32(s, AT_ESTIMATE)),
@@ -58,7 +66,7 @@ fn checked_message(m: Message) -> MessageRead
 
 fn message_from(kind: KindRead, engine: EngineRead, s: &[u8]) -> MessageRead
     requires { ⌜ length (now s) ≡ messageSize today ⌝ }
-    ensures { λ r. ⌜ messageReading r ≡ checked (messageFormat today) (lettersRead kind engine (without zeroPlace (unpack 0 (messageWidths today) (now (s .entry))))) ⌝ }
+    ensures { λ r. ⌜ messageReading r ≡ checked (messageFormat today) (lettersRead kind engine (messageRow today (now (s .entry)))) ⌝ }
 {
     match kind {
         KindRead::Is(k) => match engine {
@@ -76,7 +84,7 @@ pub fn read_message(s: &[u8]) -> MessageRead
     if s.len() != limits::MESSAGE_SIZE {
         return MessageRead::Refused(Refusal::Length);
     }
-    if numbers::be8(s, 5) != 0 {
+    if numbers::be8(s, AT_ZERO) != 0 {
         return MessageRead::Refused(Refusal::Message);
     }
     message_from(
@@ -88,7 +96,7 @@ pub fn read_message(s: &[u8]) -> MessageRead
 
 fn put_message(m: Message, out: &mut [u8])
     requires { ⌜ length (now out) ≡ messageSize today ⌝ }
-    ensures { λ _. ⌜ now (out .exit) ≡ packInto (now (out .entry)) 0 (messageWidths today) (withZero zeroPlace (messageNumbers m)) ⌝ }
+    ensures { λ _. ⌜ now (out .exit) ≡ packInto (now (out .entry)) 0 (messageWidths today) (withZero messageZero (messageNumbers m)) ⌝ }
 {
     let kind = m.kind;
     let engine = m.engine;
@@ -102,9 +110,9 @@ fn put_message(m: Message, out: &mut [u8])
         m.n,
         m.sender,
     );
-    numbers::put8(out, 4, m.receiver);
-    numbers::put8(out, 5, 0);
-    numbers::put_times(out, AT_ENTRY, m.entry, m.round);
+    numbers::put8(out, AT_RECEIVER, m.receiver);
+    numbers::put8(out, AT_ZERO, 0);
+    numbers::put_entry_round(out, AT_ENTRY, m.entry, m.round);
     numbers::put32(out, AT_ESTIMATE, codes::code_of(estimate));
     numbers::put32(out, AT_PROPOSAL, codes::code_of(proposal));
 }

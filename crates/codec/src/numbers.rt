@@ -80,7 +80,7 @@ pub(crate) fn put_four(out: &mut [u8], at: usize, a: u8, b: u8, c: u8, d: u8)
 }
 
 // An entry and a round.
-pub(crate) fn put_times(out: &mut [u8], at: usize, entry: u16, round: Round)
+pub(crate) fn put_entry_round(out: &mut [u8], at: usize, entry: u16, round: Round)
     requires { ⌜ at + 2 + today .roundWidth ≤ length (now out) ⌝ }
     ensures { λ _. ⌜ now (out .exit) ≡ packInto (now (out .entry)) at (2 ∷ today .roundWidth ∷ []) (entry ∷ round ∷ []) ⌝ }
 {

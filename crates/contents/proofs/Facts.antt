@@ -1,11 +1,11 @@
 -- What well-formed logs, images and messages say of their fields. Assumes nothing.
 use Prim.Native.Nat.{ℕ, _≤_, _<_}
-use mathlib.Core.Path.{_≡_, refl}
+use mathlib.Core.Path.{_≡_, refl, sym, _∙_}
 use mathlib.Core.Bool.{Bool, true, false, _&&_, _||_}
 use native.Mathlib.Omega.{arith}
 use lib.Count.{ones}
 use lib.Dec.{eqb, leb, ltb}
-use borrow.Author.Tests.{leb-true, ltb-true, eqb-true}
+use borrow.Author.Tests.{leb-true, ltb-true, eqb-true, le-ltb}
 use Rattle.tally.specs.Limits.{Limits, minUnits, maxUnits, minEntry, maxEntry, everyone, senders}
 use Rattle.tally.specs.Quorum.{quorumOf}
 use Rattle.tally.specs.Tally.{isMarked, placed}
@@ -15,7 +15,7 @@ use Rattle.tally.specs.declared.Estimate.{Estimate}
 use Rattle.tally.specs.declared.Estimate.the-variants.{Blank, Split, Mileage}
 use Rattle.tally.specs.declared.Tally.{Tally}
 use Rattle.contents.specs.Estimates.{isB, isBlank, isSplit, isMileage, inRange, mileageOrBlank, mileageOrSplit, secondFits, sameEstimate, sameMileage}
-use Rattle.contents.specs.Images.{logOf, belowOk, unmarkedOk, markedOk, placeOk, placesOk, tallyOk, imageOk}
+use Rattle.contents.specs.Images.{imageLog, belowOk, unmarkedOk, markedOk, placeOk, placesOk, tallyOk, checksAllowed, imageOk}
 use Rattle.contents.specs.Logs.{numbersOk, roundOk, settingsOk, stateOk, logOk}
 use Rattle.contents.specs.Messages.{firstOk, checkOk, secondOk, skipOk, kindOk, messageOk}
 use Rattle.contents.specs.declared.Image.{Image}
@@ -24,7 +24,9 @@ use Rattle.contents.specs.declared.Kind.the-variants.{Empty, First, Chec
 use Rattle.contents.specs.declared.Log.{Log}
 use Rattle.contents.specs.declared.Message.{Message}
 use Rattle.contents.specs.declared.State.{State}
-use Rattle.contents.proofs.Tests.{never, and-true, or-left, every-at}
+use Rattle.tally.proofs.Never.{never}
+use Rattle.tally.proofs.Tallies.{OnlyBelow}
+use Rattle.contents.proofs.Tests.{both-true, or-left, every-at}
 
 -- an estimate that some place takes: a mileage is in its range
 abbrev pub Known : Limits → Estimate → Type 0
@@ -67,7 +69,7 @@ module _ (l : Limits) where
   unfolding sameMileage
   known-same Blank b h = never h
   known-same Split b h = never h
-  known-same (Mileage m) b h = let a = and-true (inRange l m) (sameEstimate (Mileage m) b) h in (leb-true _ _ (a .0), same b (a .1) (leb-true _ _ (a .0)))
+  known-same (Mileage m) b h = let a = both-true (inRange l m) (sameEstimate (Mileage m) b) h in (leb-true _ _ (a .0), same b (a .1) (leb-true _ _ (a .0)))
     where
       same : (b : Estimate) → sameEstimate (Mileage m) b ≡ true → m ≤ l .maxMileage → Known l b
       same Blank e k = tt
@@ -84,10 +86,10 @@ pub record Numbers (n unit entry : ℕ) : Type 0 where
 
 pub numbers-facts : (n unit entry : ℕ) → numbersOk n unit entry ≡ true → Numbers n unit entry
 numbers-facts n unit entry h =
-    let a = and-true (leb minUnits n && leb n maxUnits && ltb unit n && leb minEntry entry) (leb entry maxEntry) h in
-    let b = and-true (leb minUnits n && leb n maxUnits && ltb unit n) (leb minEntry entry) (a .0) in
-    let c = and-true (leb minUnits n && leb n maxUnits) (ltb unit n) (b .0) in
-    let d = and-true (leb minUnits n) (leb n maxUnits) (c .0) in
+    let a = both-true (leb minUnits n && leb n maxUnits && ltb unit n && leb minEntry entry) (leb entry maxEntry) h in
+    let b = both-true (leb minUnits n && leb n maxUnits && ltb unit n) (leb minEntry entry) (a .0) in
+    let c = both-true (leb minUnits n && leb n maxUnits) (ltb unit n) (b .0) in
+    let d = both-true (leb minUnits n) (leb n maxUnits) (c .0) in
     record {
       n-low = leb-true _ _ (d .0);
       n-high = leb-true _ _ (d .1);
@@ -107,9 +109,9 @@ unfolding stateOk
 state-facts l g s h =
     let p = mileageOrBlank l (s .proposal) in
     let f = mileageOrBlank l (s .first) in
-    let a = and-true (roundOk l (s .round) && p && f) (secondFits l g (s .second)) h in
-    let b = and-true (roundOk l (s .round) && p) f (a .0) in
-    let c = and-true (roundOk l (s .round)) p (b .0) in
+    let a = both-true (roundOk l (s .round) && p && f) (secondFits l g (s .second)) h in
+    let b = both-true (roundOk l (s .round) && p) f (a .0) in
+    let c = both-true (roundOk l (s .round)) p (b .0) in
     record { round = leb-true _ _ (c .0); proposal = c .1; first = b .1; second = a .1 }
 
 pub record LogFacts (l : Limits) (r : Log) : Type 0 where
@@ -119,7 +121,7 @@ pub record LogFacts (l : Limits) (r : Log) : Type 0 where
 pub log-facts : (l : Limits) (r : Log) → logOk l r ≡ true → LogFacts l r
 unfolding logOk
 log-facts l r h =
-    let a = and-true (settingsOk (r .settings)) (stateOk l (r .settings .engine) (r .state)) h in
+    let a = both-true (settingsOk (r .settings)) (stateOk l (r .settings .engine) (r .state)) h in
     record { numbers = numbers-facts _ _ _ (a .0); state = state-facts l (r .settings .engine) (r .state) (a .1) }
 
 -- what the rules of all kinds have in common
@@ -131,7 +133,7 @@ pub record KindFacts (l : Limits) (m : Message) : Type 0 where
 first-facts : (l : Limits) (m : Message) → firstOk l m ≡ true → KindFacts l m
 unfolding firstOk
 first-facts l m h =
-    let a = and-true (eqb (m .receiver) everyone) (sameMileage l (m .estimate) (m .proposal)) h in
+    let a = both-true (eqb (m .receiver) everyone) (sameMileage l (m .estimate) (m .proposal)) h in
     let k = known-same l (m .estimate) (m .proposal) (a .1) in
     record { receiver = omega (arith, eqb-true (m .receiver) everyone (a .0)); estimate = k .0; proposal = k .1 }
 
@@ -139,18 +141,18 @@ kind-facts : (l : Limits) (k : Kind) (m : Message) → m .n ≤ maxUnits → kin
 unfolding kindOk checkOk secondOk skipOk mileageOrSplit
 kind-facts l Empty m n h = never h
 kind-facts l First m n h = first-facts l m h
-kind-facts l Check m n h = first-facts l m (and-true (isB (m .engine)) (firstOk l m) h .1)
+kind-facts l Check m n h = first-facts l m (both-true (isB (m .engine)) (firstOk l m) h .1)
 kind-facts l Second m n h =
-    let a = and-true (eqb (m .receiver) everyone && mileageOrSplit l (m .engine) (m .estimate)) (mileageOrBlank l (m .proposal)) h in
-    let b = and-true (eqb (m .receiver) everyone) (mileageOrSplit l (m .engine) (m .estimate)) (a .0) in
+    let a = both-true (eqb (m .receiver) everyone && mileageOrSplit l (m .engine) (m .estimate)) (mileageOrBlank l (m .proposal)) h in
+    let b = both-true (eqb (m .receiver) everyone) (mileageOrSplit l (m .engine) (m .estimate)) (a .0) in
     record {
       receiver = omega (arith, eqb-true (m .receiver) everyone (b .0));
       estimate = known-or-split l (isB (m .engine)) (m .estimate) (b .1);
       proposal = known-or-blank l (m .proposal) (a .1);
     }
 kind-facts l Skip m n h =
-    let a = and-true (ltb (m .receiver) (m .n) && isBlank (m .estimate)) (mileageOrBlank l (m .proposal)) h in
-    let b = and-true (ltb (m .receiver) (m .n)) (isBlank (m .estimate)) (a .0) in
+    let a = both-true (ltb (m .receiver) (m .n) && isBlank (m .estimate)) (mileageOrBlank l (m .proposal)) h in
+    let b = both-true (ltb (m .receiver) (m .n)) (isBlank (m .estimate)) (a .0) in
     record {
       receiver = omega (arith, ltb-true (m .receiver) (m .n) (b .0));
       estimate = known-blank l (m .estimate) (b .1);
@@ -166,8 +168,8 @@ pub record MessageFacts (l : Limits) (m : Message) : Type 0 where
 pub message-facts : (l : Limits) (m : Message) → messageOk l m ≡ true → MessageFacts l m
 unfolding messageOk
 message-facts l m h =
-    let a = and-true (numbersOk (m .n) (m .sender) (m .entry) && roundOk l (m .round)) (kindOk l (m .kind) m) h in
-    let b = and-true (numbersOk (m .n) (m .sender) (m .entry)) (roundOk l (m .round)) (a .0) in
+    let a = both-true (numbersOk (m .n) (m .sender) (m .entry) && roundOk l (m .round)) (kindOk l (m .kind) m) h in
+    let b = both-true (numbersOk (m .n) (m .sender) (m .entry)) (roundOk l (m .round)) (a .0) in
     let n = numbers-facts _ _ _ (b .0) in
     record { numbers = n; round = leb-true _ _ (b .1); kind = a .1; fields = kind-facts l (m .kind) m (n .n-high) (a .1) }
 
@@ -180,8 +182,8 @@ pub record PlaceFacts (l : Limits) (split : Bool) (n s : ℕ) (marked : Bool) (e
 place-facts : (l : Limits) (split : Bool) (n s : ℕ) (marked : Bool) (e : Estimate) → placeOk l split n s marked e ≡ true → PlaceFacts l split n s marked e
 unfolding placeOk
 place-facts l split n s marked e h =
-    let a = and-true (belowOk n s marked && unmarkedOk marked e) (markedOk l split marked e) h in
-    let b = and-true (belowOk n s marked) (unmarkedOk marked e) (a .0) in
+    let a = both-true (belowOk n s marked && unmarkedOk marked e) (markedOk l split marked e) h in
+    let b = both-true (belowOk n s marked) (unmarkedOk marked e) (a .0) in
     record { below = b .0; unmarked = b .1; vote = a .1 }
 
 pub known-place : (l : Limits) (split : Bool) (n s : ℕ) (marked : Bool) (e : Estimate) → PlaceFacts l split n s marked e → Known l e
@@ -192,10 +194,18 @@ pub record TallyFacts (l : Limits) (split : Bool) (g : Engine) (n : ℕ) (t : Ta
   pub places : (s : ℕ) → s < senders → PlaceFacts l split n s (isMarked (t .marks) s) (placed t s)
   pub few : ones (t .marks) < quorumOf g n
 
+-- only units below n are marked
+pub only-below : (l : Limits) (split : Bool) (g : Engine) (n : ℕ) (t : Tally) → TallyFacts l split g n t → OnlyBelow n (t .marks)
+only-below l split g n t f u above b = go (isMarked (t .marks) u) (f .places u b .below)
+  where
+    go : (m : Bool) → belowOk n u m ≡ true → m ≡ false
+    go true h = never (sym (le-ltb u n above) ∙ h)
+    go false h = refl
+
 tally-facts : (l : Limits) (split : Bool) (g : Engine) (n : ℕ) (t : Tally) → tallyOk l split g n t ≡ true → TallyFacts l split g n t
 unfolding tallyOk placesOk
 tally-facts l split g n t h =
-    let a = and-true (placesOk l split n t) (ltb (ones (t .marks)) (quorumOf g n)) h in
+    let a = both-true (placesOk l split n t) (ltb (ones (t .marks)) (quorumOf g n)) h in
     record {
       places = λ s b. place-facts l split n s (isMarked (t .marks) s) (placed t s)
           (every-at senders (λ u. placeOk l split n u (isMarked (t .marks) u) (placed t u)) (a .0) s b);
@@ -203,10 +213,10 @@ tally-facts l split g n t h =
     }
 
 pub record ImageFacts (l : Limits) (i : Image) : Type 0 where
-  pub log : logOk l (logOf i) ≡ true
+  pub log : logOk l (imageLog i) ≡ true
   pub checks : TallyFacts l false (i .settings .engine) (i .settings .n) (i .checks)
   pub seconds : TallyFacts l (isB (i .settings .engine)) (i .settings .engine) (i .settings .n) (i .seconds)
-  pub unchecked : ((isB (i .settings .engine) && isBlank (i .state .second)) || eqb (i .checks .marks) 0) ≡ true
+  pub unchecked : checksAllowed (i .settings .engine) (i .state .second) (i .checks .marks) ≡ true
 
 pub image-facts : (l : Limits) (i : Image) → imageOk l i ≡ true → ImageFacts l i
 unfolding imageOk
@@ -215,7 +225,7 @@ image-facts l i h =
     let n = i .settings .n in
     let c = tallyOk l false g n (i .checks) in
     let s = tallyOk l (isB g) g n (i .seconds) in
-    let a = and-true (logOk l (logOf i) && c && s) ((isB g && isBlank (i .state .second)) || eqb (i .checks .marks) 0) h in
-    let b = and-true (logOk l (logOf i) && c) s (a .0) in
-    let d = and-true (logOk l (logOf i)) c (b .0) in
+    let a = both-true (logOk l (imageLog i) && c && s) (checksAllowed g (i .state .second) (i .checks .marks)) h in
+    let b = both-true (logOk l (imageLog i) && c) s (a .0) in
+    let d = both-true (logOk l (imageLog i)) c (b .0) in
     record { log = d .0; checks = tally-facts l false g n (i .checks) (d .1); seconds = tally-facts l (isB g) g n (i .seconds) (b .1); unchecked = a .1 }

@@ -11,7 +11,8 @@ use Rattle.tally.specs.declared.Estimate.the-variants.{Blank, Split, Mileage}
 use Rattle.contents.specs.Estimates.{sameEngine, sameEstimate}
 use Rattle.contents.specs.Images.{sameSettings}
 use Rattle.contents.specs.declared.Settings.{Settings}
-use Rattle.contents.proofs.Tests.{never, and-true}
+use Rattle.tally.proofs.Never.{never}
+use Rattle.contents.proofs.Tests.{both-true}
 
 pub same-engine : (a b : Engine) → sameEngine a b ≡ true → a ≡ b
 same-engine B B h = refl
@@ -45,9 +46,9 @@ settings e n u t = record { engine = e; n = n; unit = u; entry = t }
 pub same-settings : (a b : Settings) → sameSettings a b ≡ true → a ≡ b
 unfolding sameSettings
 same-settings a b h =
-    let p = and-true (sameEngine (a .engine) (b .engine) && eqb (a .n) (b .n) && eqb (a .unit) (b .unit)) (eqb (a .entry) (b .entry)) h in
-    let q = and-true (sameEngine (a .engine) (b .engine) && eqb (a .n) (b .n)) (eqb (a .unit) (b .unit)) (p .0) in
-    let r = and-true (sameEngine (a .engine) (b .engine)) (eqb (a .n) (b .n)) (q .0) in
+    let p = both-true (sameEngine (a .engine) (b .engine) && eqb (a .n) (b .n) && eqb (a .unit) (b .unit)) (eqb (a .entry) (b .entry)) h in
+    let q = both-true (sameEngine (a .engine) (b .engine) && eqb (a .n) (b .n)) (eqb (a .unit) (b .unit)) (p .0) in
+    let r = both-true (sameEngine (a .engine) (b .engine)) (eqb (a .n) (b .n)) (q .0) in
     let fields : _≡_ {A = Settings} (settings (a .engine) (a .n) (a .unit) (a .entry)) (settings (b .engine) (b .n) (b .unit) (b .entry)) =
     cc (same-engine (a .engine) (b .engine) (r .0), eqb-true (a .n) (b .n) (r .1), eqb-true (a .unit) (b .unit) (q .1), eqb-true (a .entry) (b .entry) (p .1)) in
     fields

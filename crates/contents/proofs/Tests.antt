@@ -4,15 +4,12 @@ use mathlib.Core.Path.{_≡_, refl, sym, subst, _∙_}
 use mathlib.Core.Bool.{Bool, true, false, _&&_, _||_}
 use native.Mathlib.Decide.{decLt}
 use native.Mathlib.Omega.{arith}
+use Rattle.tally.proofs.Never.{never}
 use Rattle.contents.specs.Images.{every}
 
--- a test that failed was not passed
-pub never : {A : Type 0} → false ≡ true → A
-never h = let z : _≡_ {A = ℕ} 0 1 = cc in let f : ⊥ = omega arith in absurd f
-
-pub and-true : (a b : Bool) → (a && b) ≡ true → (a ≡ true) × (b ≡ true)
-and-true true b e = (refl, e)
-and-true false b e = never e
+pub both-true : (a b : Bool) → (a && b) ≡ true → (a ≡ true) × (b ≡ true)
+both-true true b e = (refl, e)
+both-true false b e = never e
 
 pub or-left : (a b : Bool) → (a || b) ≡ true → b ≡ false → a ≡ true
 or-left true b e f = refl
@@ -22,7 +19,7 @@ or-left false b e f = never (sym f ∙ e)
 pub every-at : (k : ℕ) (P : ℕ → Bool) → every k P ≡ true → (s : ℕ) → s < k → P s ≡ true
 unfolding every
 every-at zero P h s b = absurd (omega arith)
-every-at (suc k) P h s b = go (and-true (every k P) (P k) h) (every-at k P) (decLt s k)
+every-at (suc k) P h s b = go (both-true (every k P) (P k) h) (every-at k P) (decLt s k)
   where
     go : (every k P ≡ true) × (P k ≡ true) → (every k P ≡ true → (s : ℕ) → s < k → P s ≡ true) → Dec (s < k) → P s ≡ true
     go a ih (yes l) = ih (a .0) s l

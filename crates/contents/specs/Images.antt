@@ -17,8 +17,8 @@ use Rattle.contents.specs.declared.Settings.{Settings}
 use Rattle.contents.specs.declared.State.{State}
 
 -- 20 bytes laid out as a log, with current contents
-abbrev pub logOf : Image → Log
-logOf i = record { settings = i .settings; state = i .state }
+abbrev pub imageLog : Image → Log
+imageLog i = record { settings = i .settings; state = i .state }
 
 -- all numbers below k pass the test P
 unfoldable pub every : ℕ → (ℕ → Bool) → Bool
@@ -49,14 +49,18 @@ unfoldable pub tallyOk : Limits → Bool → Engine → ℕ → Tally → Bool
 tallyOk l split g n t = placesOk l split n t && ltb (ones (t .marks)) (quorumOf g n)
 
 -- in R, or when the second estimate is not blank, there are no CHECK marks
+unfoldable pub checksAllowed : Engine → Estimate → ℕ → Bool
+checksAllowed g second marks = (isB g && isBlank second) || eqb marks 0
+
+-- an image (the scope paper's term): a well-formed log, and the rules of both tallies
 unfoldable pub imageOk : Limits → Image → Bool
 imageOk l i =
-    logOk l (logOf i)
+    logOk l (imageLog i)
     && tallyOk l false (i .settings .engine) (i .settings .n) (i .checks)
     && tallyOk l (isB (i .settings .engine)) (i .settings .engine) (i .settings .n) (i .seconds)
-    && ((isB (i .settings .engine) && isBlank (i .state .second)) || eqb (i .checks .marks) 0)
+    && checksAllowed (i .settings .engine) (i .state .second) (i .checks .marks)
 
--- an image fits its log when engine, n, unit and entry agree,
+-- an image fits its log (the scope paper's term) when engine, n, unit and entry agree,
 unfoldable pub sameSettings : Settings → Settings → Bool
 sameSettings a b = sameEngine (a .engine) (b .engine) && eqb (a .n) (b .n) && eqb (a .unit) (b .unit) && eqb (a .entry) (b .entry)
 

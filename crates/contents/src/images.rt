@@ -11,11 +11,11 @@ use tally::Tally;
 use tally::limits;
 ghost use mathlib.Core.Path.{_≡_};
 ghost use Rattle.tally.specs.Limits.{today};
-ghost use Rattle.contents.specs.Images.{logOf, placeOk, placesOk, tallyOk, imageOk, sameSettings, stateFits, fits};
+ghost use Rattle.contents.specs.Images.{imageLog, placeOk, placesOk, tallyOk, checksAllowed, imageOk, sameSettings, stateFits, fits};
 
 // The record that an image's first bytes are laid out as.
-pub fn log_of(i: Image) -> Log
-    ensures { λ r. ⌜ r ≡ logOf i ⌝ }
+pub fn image_log(i: Image) -> Log
+    ensures { λ r. ⌜ r ≡ imageLog i ⌝ }
 {
     let settings = i.settings;
     let state = i.state;
@@ -48,6 +48,13 @@ pub fn tally_ok(split: bool, engine: Engine, n: u8, t: Tally) -> bool
     places_ok(split, n, t) & (t.count() < tally::quorum(engine, n))
 }
 
+// In R, or when the second estimate is not blank, there are no CHECK marks.
+pub fn checks_allowed(engine: Engine, second: Estimate, marks: u16) -> bool
+    ensures { λ r. ⌜ r ≡ checksAllowed engine second marks ⌝ }
+{
+    (estimates::is_b(engine) & estimates::is_blank(second)) | (marks == 0)
+}
+
 pub fn well_formed(i: Image) -> bool
     ensures { λ r. ⌜ r ≡ imageOk today i ⌝ }
 {
@@ -57,11 +64,10 @@ pub fn well_formed(i: Image) -> bool
     let second = state.second;
     let checks = i.checks;
     let seconds = i.seconds;
-    let b = estimates::is_b(engine);
-    logs::well_formed(log_of(i))
+    logs::well_formed(image_log(i))
         & tally_ok(false, engine, settings.n, checks)
-        & tally_ok(b, engine, settings.n, seconds)
-        & ((b & estimates::is_blank(second)) | (checks.marks == 0))
+        & tally_ok(estimates::is_b(engine), engine, settings.n, seconds)
+        & checks_allowed(engine, second, checks.marks)
 }
 
 pub fn same_settings(a: Settings, b: Settings) -> bool

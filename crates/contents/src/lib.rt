@@ -9,7 +9,7 @@ use tally::Estimate;
 use tally::Tally;
 use tally::limits::Round;
 
-// What a unit is started with.
+// What a unit is started with: engine, number of units n, its own number, and the entry that it settles.
 pub struct Settings {
     pub engine: Engine,
     pub n: u8,
@@ -25,13 +25,14 @@ pub struct State {
     pub second: Estimate,
 }
 
-// What a unit keeps over a key-off.
+// A log: what a unit keeps over a key-off.
 pub struct Log {
     pub settings: Settings,
     pub state: State,
 }
 
-// What a unit has while it is up: its current contents, and the CHECKs and SECONDs counted.
+// An image (the scope paper's term): what a unit has while it is up, lost at key-off. Its current contents, and the
+// CHECKs and SECONDs counted.
 pub struct Image {
     pub settings: Settings,
     pub state: State,
@@ -39,6 +40,7 @@ pub struct Image {
     pub seconds: Tally,
 }
 
+// FIRST, CHECK, SECOND and SKIP, the scope paper's kinds; an empty message counts as no message.
 pub enum Kind {
     Empty,
     First,
@@ -47,6 +49,7 @@ pub enum Kind {
     Skip,
 }
 
+// A message, with the sender's engine, n and entry. The receiver is a unit, or everyone.
 pub struct Message {
     pub kind: Kind,
     pub engine: Engine,

@@ -1,4 +1,5 @@
 pub mod Bounds
+pub mod Never
 pub mod Count
 pub mod Quorums
 pub mod Marks

@@ -14,14 +14,25 @@ pub quorum-half : (g : Engine) (n : ℕ) → n < quorumOf g n + quorumOf g n
 quorum-half B n = omega arith
 quorum-half R n = omega arith
 
--- a quorum is one of the units at most, and more than one
+-- a quorum is at least two units and at most all
 pub quorum-fits : (g : Engine) (n : ℕ) → minUnits ≤ n → (2 ≤ quorumOf g n) × (quorumOf g n ≤ n)
 quorum-fits B n h = (omega arith, omega arith)
 quorum-fits R n h = (omega arith, omega arith)
 
--- a quorum is at least as many as stop another one: q ≥ n − q + 1
+-- a quorum is enough units to block another: q ≥ n − q + 1
 pub quorum-blocks : (g : Engine) (n : ℕ) → minUnits ≤ n → n - quorumOf g n + 1 ≤ quorumOf g n
 quorum-blocks g n h = omega (arith, quorum-half g n, quorum-fits g n h)
+
+-- B: a quorum is over half of the units, and the least number that is
+pub quorum-least-b : (n k : ℕ) → n < k + k → quorumOf B n ≤ k
+quorum-least-b n k h = omega arith
+
+-- R: a quorum is over two thirds of the units, and the least number that is
+pub quorum-thirds : (n : ℕ) → n + n < quorumOf R n + quorumOf R n + quorumOf R n
+quorum-thirds n = omega arith
+
+pub quorum-least-r : (n k : ℕ) → n + n < k + k + k → quorumOf R n ≤ k
+quorum-least-r n k h = omega arith
 
 -- two quorums overlap in a unit
 pub quorums-overlap : (g : Engine) (n : ℕ) (P Q : ℕ → Bool) → quorumOf g n ≤ count n P → quorumOf g n ≤ count n Q → Both n P Q

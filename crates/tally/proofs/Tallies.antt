@@ -1,5 +1,5 @@
 -- Tallies: one turn of a loop over the senders, counts over unit numbers, and what marking a sender changes. Assumes nothing.
-use Prim.Native.Nat.{ℕ, zero, suc, _+_, _-_, _^_, _<_}
+use Prim.Native.Nat.{ℕ, zero, suc, _+_, _-_, _^_, _<_, _≤_}
 use mathlib.Core.Path.{_≡_, refl, sym, ap, _∙_}
 use mathlib.Core.Bool.{Bool, true, false, cond, _&&_, and-true}
 use mathlib.Core.List.{List, [], _∷_}
@@ -7,17 +7,22 @@ use native.Mathlib.Nat.{add-zero, zero-add, add-suc, suc-add}
 use native.Mathlib.Numerals.{add-one}
 use native.Mathlib.Omega.{arith}
 use lib.Count.{ones}
-use lib.ListN.{length}
+use lib.Bits.{or-lt}
+use lib.ListN.{length, length-set}
+use lib.Pow.{pow-lt, pow-pos}
 use lib.Seq.{getD-set-same, getD-set-other}
 use Rattle.tally.specs.Limits.{senders}
-use Rattle.tally.specs.Count.{bump, count}
-use Rattle.tally.specs.Gathered.{holds, passing, holders, first}
-use Rattle.tally.specs.Tally.{isMarked, blankCell, placed, held, mark, gatheredFrom, gathered}
+use Rattle.tally.specs.Count.{bump, passing, count}
+use Rattle.tally.specs.Gathered.{holds, holders, firstPassing}
+use Rattle.tally.specs.Tally.{Typed, noMarks, isMarked, blankCell, placed, held, mark, gatheredFrom, gathered}
+use Rattle.tally.specs.Quorum.{quorumOf}
 use Rattle.tally.specs.declared.Cell.{Cell}
+use Rattle.tally.specs.declared.Engine.{Engine}
 use Rattle.tally.specs.declared.Estimate.{Estimate}
 use Rattle.tally.specs.declared.Estimate.the-variants.{Blank}
 use Rattle.tally.specs.declared.Tally.{Tally}
-use Rattle.tally.proofs.Count.{count-same}
+use Rattle.tally.proofs.Count.{passing-all, count-same, count-below, Both}
+use Rattle.tally.proofs.Quorums.{quorums-overlap}
 use Rattle.tally.proofs.Marks.{ones-senders, mark-same, mark-other}
 
 -- those gathered from the sender s on
@@ -27,7 +32,7 @@ rest t s = gatheredFrom t s (senders - s)
 -- one turn of a loop over the senders, for a test that blank fails
 module _ (P : Estimate → Bool) (blank : P Blank ≡ false) (t : Tally) (s : ℕ) (below : s < senders) where
   pub passing-step : passing P (rest t s) ≡ bump (P (held t s)) (passing P (rest t (s + 1)))
-  unfolding passing gatheredFrom held
+  unfolding gatheredFrom held
   passing-step =
       let e : senders - s ≡ suc (senders - (s + 1)) = omega arith in
       rw e (rw (add-one s) (go (isMarked (t .marks) s) (gatheredFrom t (suc s) (senders - suc s))))
@@ -36,13 +41,13 @@ module _ (P : Estimate → Bool) (blank : P Blank ≡ false) (t : Tally) (s : �
       go true es = refl
       go false es = rw blank
 
-  pub first-step : first P (rest t s) ≡ cond (P (held t s)) (held t s) (first P (rest t (s + 1)))
-  unfolding first gatheredFrom held
+  pub first-step : firstPassing P (rest t s) ≡ cond (P (held t s)) (held t s) (firstPassing P (rest t (s + 1)))
+  unfolding firstPassing gatheredFrom held
   first-step =
       let e : senders - s ≡ suc (senders - (s + 1)) = omega arith in
       rw e (rw (add-one s) (go (isMarked (t .marks) s) (gatheredFrom t (suc s) (senders - suc s))))
     where
-      go : (b : Bool) (es : List Estimate) → first P (cond b (placed t s ∷ es) es) ≡ cond (P (cond b (placed t s) Blank)) (cond b (placed t s) Blank) (first P es)
+      go : (b : Bool) (es : List Estimate) → firstPassing P (cond b (placed t s ∷ es) es) ≡ cond (P (cond b (placed t s) Blank)) (cond b (placed t s) Blank) (firstPassing P es)
       go true es = refl
       go false es = rw blank
 
@@ -52,7 +57,7 @@ module _ (P : Estimate → Bool) (t : Tally) where
   Q u = isMarked (t .marks) u && P (placed t u)
 
   passing-from : (s k : ℕ) → passing P (gatheredFrom t s k) + count s Q ≡ count (s + k) Q
-  unfolding passing gatheredFrom
+  unfolding gatheredFrom
   passing-from s zero = rw add-zero (zero-add (count s Q))
   passing-from s (suc k) =
       go (isMarked (t .marks) s) refl ∙ passing-from (suc s) k ∙ ap (λ (x : ℕ). count x Q) (suc-add s k ∙ sym (add-suc s k))
@@ -74,16 +79,11 @@ module _ (P : Estimate → Bool) (t : Tally) where
 
 -- those gathered are as many as the ones of the marks
 pub length-gathered : (t : Tally) → t .marks < 2 ^ senders → length (gathered t) ≡ ones (t .marks)
-unfolding passing
 length-gathered t h =
-    every (gathered t)
+    sym (passing-all (gathered t))
     ∙ passing-senders (λ e. true) t
     ∙ count-same senders (λ u. isMarked (t .marks) u && true) (isMarked (t .marks)) (λ u b. and-true (isMarked (t .marks) u))
     ∙ sym (ones-senders (t .marks) h)
-  where
-    every : (es : List Estimate) → length es ≡ passing (λ e. true) es
-    every [] = refl
-    every (e ∷ es) = ap suc (every es)
 
 -- the holders of v, counted over unit numbers
 pub holders-senders : (v : ℕ) (t : Tally) → holders v (gathered t) ≡ count senders (λ u. holds v (held t u))
@@ -108,3 +108,33 @@ unfolding held mark
 held-other t s u e n =
     rw (mark-other (t .marks) s u n)
     (ap (λ (c : Cell). cond (isMarked (t .marks) u) (c .estimate) Blank) (getD-set-other (t .cells) s u (record { estimate = e }) blankCell n))
+
+-- ---- tallies in which only units below n are marked
+
+-- no unit from n on is marked
+abbrev pub OnlyBelow : ℕ → ℕ → Type 0
+OnlyBelow n marks = (u : ℕ) → n ≤ u → u < senders → isMarked marks u ≡ false
+
+-- the ones of the marks are the marked units below n
+pub ones-units : (n marks : ℕ) → n ≤ senders → marks < 2 ^ senders → OnlyBelow n marks → ones marks ≡ count n (isMarked marks)
+ones-units n marks le h only = ones-senders marks h ∙ count-below n senders (isMarked marks) le only
+
+-- two tallies of a quorum each share a sender
+pub tallies-overlap : (g : Engine) (n a b : ℕ) → n ≤ senders → a < 2 ^ senders → b < 2 ^ senders → OnlyBelow n a → OnlyBelow n b
+    → quorumOf g n ≤ ones a → quorumOf g n ≤ ones b → Both n (isMarked a) (isMarked b)
+tallies-overlap g n a b le ha hb oa ob qa qb =
+    quorums-overlap g n (isMarked a) (isMarked b) (omega (arith, ones-units n a le ha oa)) (omega (arith, ones-units n b le hb ob))
+
+-- ---- what the types say of a tally is kept
+
+pub typed-empty : Typed noMarks
+unfolding noMarks
+typed-empty = record { marks = pow-pos senders; cells = refl }
+
+pub typed-mark : (t : Tally) (s : ℕ) (e : Estimate) → Typed t → s < senders → Typed (mark t s e)
+unfolding mark
+typed-mark t s e typed b =
+    record {
+      marks = or-lt senders (t .marks) (2 ^ s) (typed .marks) (pow-lt b);
+      cells = length-set (t .cells) s (record { estimate = e }) ∙ typed .cells;
+    }

@@ -7,7 +7,7 @@ pub record Limits : Type 0 where
   pub lastRound : ℕ
   pub roundWidth : ℕ
 
--- mileage: 0 to 9,999,999; round: 0 to 9,999, in 2 bytes
+-- mileage: 0 to 9,999,999, in hundred-metre steps; round: 0 to 9,999, in 2 bytes
 abbrev pub today : Limits
 today = record { maxMileage = 9999999; lastRound = 9999; roundWidth = 2 }
 
@@ -29,14 +29,14 @@ minEntry = 1
 abbrev pub maxEntry : ℕ
 maxEntry = 9999
 
--- blank and split, as they are stored
+-- blank (the source's ⊥) and split (⊤), both the scope paper's terms, as they are stored
 abbrev pub blankCode : ℕ
 blankCode = 4294967295
 
 abbrev pub splitCode : ℕ
 splitCode = 4294967294
 
--- the receiver of F, C and S
+-- the receiver of F, C and S: everyone, the sender too
 abbrev pub everyone : ℕ
 everyone = 255
 

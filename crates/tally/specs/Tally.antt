@@ -1,17 +1,23 @@
 -- Tallies: which senders are marked, and with what. Assumes nothing.
-use Prim.Native.Nat.{ℕ, zero, suc, _/_, _%_, _^_}
+use Prim.Native.Nat.{ℕ, zero, suc, _<_, _/_, _%_, _^_}
+use mathlib.Core.Path.{_≡_}
 use mathlib.Core.Bool.{Bool, cond}
 use mathlib.Core.List.{List, [], _∷_}
 use lib.Bits.{bitOr}
 use lib.Dec.{eqb}
-use lib.ListN.{getD, set, replicate}
+use lib.ListN.{length, getD, set, replicate}
 use Rattle.tally.specs.Limits.{senders}
 use Rattle.tally.specs.declared.Cell.{Cell}
 use Rattle.tally.specs.declared.Estimate.{Estimate}
 use Rattle.tally.specs.declared.Estimate.the-variants.{Blank}
 use Rattle.tally.specs.declared.Tally.{Tally}
 
--- a sender mark is one bit, value 2 to the power of the unit
+-- what the types of a tally's fields say: 16-bit marks and sixteen cells
+pub record Typed (t : Tally) : Type 0 where
+  pub marks : t .marks < 2 ^ senders
+  pub cells : length (t .cells) ≡ senders
+
+-- a sender mark (the scope paper's term) is one bit, value 2 to the power of the unit
 abbrev pub isMarked : ℕ → ℕ → Bool
 isMarked marks s = eqb (marks / 2 ^ s % 2) 1
 

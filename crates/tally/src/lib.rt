@@ -1,4 +1,4 @@
-// Engines, quorums, and tallies of estimates by sender.
+// The base of the core: limits, refusals, engines, estimates, quorums, and tallies of estimates by sender.
 pub mod limits;
 
 ghost use mathlib.Core.Path.{_≡_};
@@ -8,13 +8,15 @@ ghost use Rattle.tally.specs.Limits.{senders};
 ghost use Rattle.tally.specs.Refusal.{numberOf};
 ghost use Rattle.tally.specs.Quorum.{quorumOf, majorityOf};
 ghost use Rattle.tally.specs.Tally.{isMarked, noMarks, mark, placed, held, gathered, gatheredFrom};
-ghost use Rattle.tally.specs.Gathered.{isSome, holds, holders, common, lowest, leads, first, majority};
+ghost use Rattle.tally.specs.Gathered.{anyMileage, holds, holders, common, lowest, leads, firstPassing, majority};
 
+// The engines of the scope paper: B after B*-Consensus, R after R*-Consensus.
 pub enum Engine {
     B,
     R,
 }
 
+// A proposal or an estimate. Blank is the scope paper's term for the source's ⊥, split for its ⊤.
 pub enum Estimate {
     Blank,
     Split,
@@ -62,13 +64,14 @@ pub struct Cell {
     pub estimate: Estimate,
 }
 
-// The senders that have been counted, and what each of them sent.
+// The senders that have been counted, and what each of them sent. Sender marks (the scope paper's term) are
+// bits, of value 2 to the power of the unit.
 pub struct Tally {
     pub marks: u16,
     pub cells: [Cell; limits::SENDERS],
 }
 
-// How many units a decision takes.
+// How many CHECKs or SECONDs are a quorum.
 pub fn quorum(engine: Engine, n: u8) -> u32
     ensures { λ r. ⌜ r ≡ quorumOf engine n ⌝ }
 {
@@ -80,12 +83,13 @@ pub fn quorum(engine: Engine, n: u8) -> u32
 }
 
 // How many of R's quorum are a majority.
-pub fn majority(n: u8) -> u32
+pub fn majority_size(n: u8) -> u32
     ensures { λ r. ⌜ r ≡ majorityOf n ⌝ }
 {
     quorum(Engine::R, n) / 2 + 1
 }
 
+// Has this sender a mark?
 pub fn is_marked(marks: u16, sender: u8) -> bool
     requires { ⌜ sender < senders ⌝ }
     ensures { λ r. ⌜ r ≡ isMarked marks sender ⌝ }
@@ -93,8 +97,9 @@ pub fn is_marked(marks: u16, sender: u8) -> bool
     (marks >> sender) % 2 == 1
 }
 
-pub fn is_some(e: Estimate) -> bool
-    ensures { λ r. ⌜ r ≡ isSome e ⌝ }
+// Is it a mileage, whichever?
+pub fn any_mileage(e: Estimate) -> bool
+    ensures { λ r. ⌜ r ≡ anyMileage e ⌝ }
 {
     match e {
         Estimate::Blank => false,
@@ -189,7 +194,7 @@ impl Tally {
     {
         for s in 0..limits::MAX_UNITS {
             let e = self.held(s);
-            if is_some(e) {
+            if any_mileage(e) {
                 return e;
             }
         }
@@ -236,7 +241,7 @@ impl Tally {
 // The first estimate, from a unit number on, that leads: a recursion over unit numbers.
 pub fn leader_from(t: Tally, need: u32, sender: u8) -> Estimate
     requires { ⌜ sender ≤ senders ⌝ }
-    ensures { λ r. ⌜ r ≡ first (leads need (gathered t)) (gatheredFrom t sender (senders - sender)) ⌝ }
+    ensures { λ r. ⌜ r ≡ firstPassing (leads need (gathered t)) (gatheredFrom t sender (senders - sender)) ⌝ }
 {
     if sender == limits::MAX_UNITS {
         return Estimate::Blank;

@@ -1,7 +1,5 @@
-// Every limit and code of the scope paper, once. `specs/Limits.antt` has the same names for the contracts.
-pub type Round = u16;
-
-// Units, and entries.
+// Every limit and code of the scope paper, once; `specs/Limits.antt` has them for the contracts.
+// Units n, numbered 0 to n - 1, and entries.
 pub const MIN_UNITS: u8 = 3;
 
 pub const MAX_UNITS: u8 = 16;
@@ -13,27 +11,29 @@ pub const MIN_ENTRY: u16 = 1;
 
 pub const MAX_ENTRY: u16 = 9999;
 
-// Rounds: the last one, and the bytes that a round takes.
+// Rounds: their type, the last one, and the bytes that a round takes.
+pub type Round = u16;
+
 pub const LAST_ROUND: Round = 9999;
 
 pub const ROUND_WIDTH: usize = 2;
 
-// Mileages, and the numbers that stand for blank and split.
+// Mileages, in hundred-metre steps, and the numbers that stand for blank and split.
 pub const MAX_MILEAGE: u32 = 9999999;
 
 pub const SPLIT: u32 = 4294967294;
 
 pub const BLANK: u32 = 4294967295;
 
-// The receiver of a message to all.
+// The receiver of a message to everyone, its sender too.
 pub const EVERYONE: u8 = 255;
 
-// The bytes of a log, an image and a message.
-pub const LOG_SIZE: usize = 20;
+// The bytes of a log, an image and a message: 20, 152 and 18, of which 2 are the round.
+pub const LOG_SIZE: usize = 18 + ROUND_WIDTH;
 
-pub const IMAGE_SIZE: usize = 152;
+pub const IMAGE_SIZE: usize = 150 + ROUND_WIDTH;
 
-pub const MESSAGE_SIZE: usize = 18;
+pub const MESSAGE_SIZE: usize = 16 + ROUND_WIDTH;
 
 // A log and a message as numbers, the zero byte left out.
 pub const LOG_FIELDS: usize = 8;

@@ -6,7 +6,7 @@ use borrow.Author.Needs.{needs}
 use borrow.Fn.Kinds.{In}
 use borrow.Fn.PlainCycle.{Measures, is, falls, and}
 use Rattle.tally.specs.Limits.{senders}
-use Rattle.tally.specs.Gathered.{first, leads}
+use Rattle.tally.specs.Gathered.{firstPassing, leads}
 use Rattle.tally.specs.Tally.{gathered, gatheredFrom}
 use Rattle.tally.proofs.Tallies.{first-step}
 use Rattle.tally.proofs.leader_from.Reads as own
@@ -27,7 +27,7 @@ abbrev below : ℕ → In 0 kinds.ps
 below t = and 0 kinds.ps (falls 0 kinds.ps _<_ μ t) own.Pre
 
 pub +leader-from-spec : {M : Type 1} → statement M
-unfolding first leads gatheredFrom
+unfolding firstPassing leads gatheredFrom
 +leader-from-spec = close μ λ t. lts.spec (held-reads.Asked, held-reads.Learnt, leads-reads.Asked, leads-reads.Learnt, below t, own.Post) (at t) own.Post
     (λ c. rw (c .if1 .taken))
     (λ c κs. omega arith)

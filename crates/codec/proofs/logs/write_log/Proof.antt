@@ -1,7 +1,7 @@
 use mathlib.Core.Path.{refl, sym, ap, _∙_}
 use borrow.Author.Tests.{eq-eqb, ne-eqb, not-true, not-false}
 use Rattle.codec.specs.Formats.{wrote, withZero}
-use Rattle.codec.specs.Logs.{logWidths, zeroPlace, logNumbers, writeLog}
+use Rattle.codec.specs.Logs.{logWidths, logZero, logNumbers, writeLog}
 use Rattle.tally.specs.Limits.{today}
 use Rattle.codec.proofs.Rows.{packInto-eq}
 use borrow.Author.Needs.{needs}
@@ -16,7 +16,7 @@ returns-3 c =
     rw (eq-eqb _ _ (b .before .before .if1 .left), sym (b .before .well-formed .ensures) ∙ not-false _ (b .if2 .left))
     (ap (wrote 0)
     (c .before .before .put-log .ensures
-    ∙ packInto-eq (logWidths today) (withZero zeroPlace (logNumbers (start .log))) (start .out .now) 0 refl (sym (b .before .before .if1 .left))))
+    ∙ packInto-eq (logWidths today) (withZero logZero (logNumbers (start .log))) (start .out .now) 0 refl (sym (b .before .before .if1 .left))))
 
 pub write-log-spec : {M : Type 1} → statement M
 unfolding writeLog

@@ -2,7 +2,7 @@ use mathlib.Core.Path.{refl, sym, ap, _∙_}
 use lib.ListN.{length}
 use borrow.Author.Tests.{eq-eqb, ne-eqb, not-true, not-false}
 use Rattle.codec.specs.Formats.{wrote, withZero}
-use Rattle.codec.specs.Messages.{messageWidths, zeroPlace, messageNumbers, writeMessage}
+use Rattle.codec.specs.Messages.{messageWidths, messageZero, messageNumbers, writeMessage}
 use Rattle.tally.specs.Limits.{today}
 use Rattle.codec.proofs.Rows.{packInto-eq}
 use Rattle.codec.proofs.Cleared.{length-cleared}
@@ -37,7 +37,7 @@ returns-3 c =
     rw (eq-eqb _ _ (sym long ∙ size), sym (b .before .well-formed .ensures) ∙ not-false _ (b .if2 .left))
     (ap (wrote 0)
     (c .before .before .put-message .ensures
-    ∙ packInto-eq (messageWidths today) (withZero zeroPlace (messageNumbers (c .before .before .before .before .before .before .before .before .before .before .before .before .args .m))) _ 0 refl (sym size)))
+    ∙ packInto-eq (messageWidths today) (withZero messageZero (messageNumbers (c .before .before .before .before .before .before .before .before .before .before .before .before .args .m))) _ 0 refl (sym size)))
 
 pub write-message-spec : {M : Type 1} → statement M
 write-message-spec =

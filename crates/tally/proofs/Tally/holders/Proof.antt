@@ -5,7 +5,8 @@ use mathlib.Core.Logic.{⊎-elim}
 use native.Mathlib.Omega.{arith}
 use borrow.Author.Needs.{needs}
 use Rattle.tally.specs.Limits.{senders}
-use Rattle.tally.specs.Gathered.{holds, passing, holders}
+use Rattle.tally.specs.Gathered.{holds, holders}
+use Rattle.tally.specs.Count.{passing}
 use Rattle.tally.specs.Tally.{gathered, gatheredFrom}
 use Rattle.tally.proofs.Tallies.{rest, passing-step}
 use Rattle.tally.proofs.Tally.holders.Statement.{statement}
@@ -32,7 +33,7 @@ loop-again c =
     )
 
 returns : tie.Need-returns Inv-loop μ-loop
-unfolding passing gatheredFrom
+unfolding gatheredFrom
 returns c =
     let e : c .before .loop .s ≡ senders = omega arith in
     let all = rw e at (c .before .loop .inv .1 .1) in

@@ -4,14 +4,14 @@ use mathlib.Core.Path.{_≡_, refl, sym, ap, _∙_}
 use native.Mathlib.Omega.{arith}
 use borrow.Author.Needs.{needs}
 use Rattle.tally.specs.Limits.{senders}
-use Rattle.tally.specs.Gathered.{isSome, first, lowest}
+use Rattle.tally.specs.Gathered.{anyMileage, firstPassing, lowest}
 use Rattle.tally.specs.Tally.{gathered, gatheredFrom}
 use Rattle.tally.proofs.Tallies.{rest, first-step}
 use Rattle.tally.proofs.Tally.lowest.Statement.{statement}
 use Rattle.tally.proofs.Tally.lowest.Tie as tie
 
 abbrev Inv-loop : tie.InvT-loop
-Inv-loop self s₀ s = (s ≤ senders) × (first isSome (rest self s) ≡ lowest (gathered self))
+Inv-loop self s₀ s = (s ≤ senders) × (firstPassing anyMileage (rest self s) ≡ lowest (gathered self))
 
 abbrev μ-loop : tie.MeasureT-loop
 μ-loop self s₀ s = senders - s
@@ -20,20 +20,20 @@ returns : tie.Need-returns Inv-loop μ-loop
 returns c =
     let l = c .before .before .before .before .loop in
     let self = c .before .before .before .before .before .args .self in
-    let test = c .before .is-some .ensures ∙ ap isSome (c .before .before .held .ensures) in
-    let step = rw (← test, c .if1 .taken) at (first-step isSome refl self (l .s) (c .before .before .before .loop-test .taken)) in
+    let test = c .before .any-mileage .ensures ∙ ap anyMileage (c .before .before .held .ensures) in
+    let step = rw (← test, c .if1 .taken) at (first-step anyMileage refl self (l .s) (c .before .before .before .loop-test .taken)) in
     c .before .before .held .ensures ∙ sym step ∙ l .inv .1
 
 loop-again : tie.Need-loop-again Inv-loop μ-loop
 loop-again c =
     let l = c .before .before .before .before .loop in
     let self = c .before .before .before .before .before .args .self in
-    let test = c .before .is-some .ensures ∙ ap isSome (c .before .before .held .ensures) in
-    let step = rw (← test, c .if1 .left) at (first-step isSome refl self (l .s) (c .before .before .before .loop-test .taken)) in
+    let test = c .before .any-mileage .ensures ∙ ap anyMileage (c .before .before .held .ensures) in
+    let step = rw (← test, c .if1 .left) at (first-step anyMileage refl self (l .s) (c .before .before .before .loop-test .taken)) in
     (omega arith, sym step ∙ l .inv .1)
 
 returns-2 : tie.Need-returns-2 Inv-loop μ-loop
-unfolding first gatheredFrom
+unfolding firstPassing gatheredFrom
 returns-2 c =
     let e : c .before .loop .s ≡ senders = omega arith in
     rw e at (c .before .loop .inv .1)

@@ -1,0 +1,33 @@
+-- Reading and writing, one law a branch. Assumes nothing.
+use Prim.Native.Nat.{ℕ}
+use mathlib.Core.Path.{_≡_, refl}
+use mathlib.Core.Bool.{true, false}
+use mathlib.Core.List.{List}
+use mathlib.Core.Option.{some, none}
+use lib.ListN.{length, getD}
+use borrow.Author.Tests.{eq-eqb, ne-eqb}
+use Rattle.tally.specs.Refusal.{numberOf}
+use Rattle.tally.specs.declared.Engine.{Engine}
+use Rattle.tally.specs.declared.Refusal.the-variants.{Length}
+use Rattle.codec.specs.Codes.{engineOf, withEngine}
+use Rattle.codec.specs.Formats.{reading, wrote, Format, rowNumbers, zeroByte, checked, fromNumbers, readBytes, toBytes, writeBytes}
+use Rattle.codec.specs.declared.EngineRead.the-variants.{Is, Unknown}
+
+module _ {A : Type 0} (f : Format A) (bs : List ℕ) where
+  pub read-length : (length bs ≡ f .size → ⊥) → readBytes f bs ≡ reading (numberOf Length) (f .nothing)
+  read-length n = rw (ne-eqb (length bs) (f .size) n)
+
+  pub read-not-zero : length bs ≡ f .size → (zeroByte f bs ≡ 0 → ⊥) → readBytes f bs ≡ reading (f .malformed) (f .nothing)
+  read-not-zero e n = rw (eq-eqb (length bs) (f .size) e, ne-eqb (zeroByte f bs) 0 n)
+
+  pub read-row : length bs ≡ f .size → zeroByte f bs ≡ 0 → readBytes f bs ≡ fromNumbers f (rowNumbers f bs)
+  read-row e z = rw (eq-eqb (length bs) (f .size) e, eq-eqb (zeroByte f bs) 0 z)
+
+  pub write-length : (a : A) (kept : List ℕ) → (length bs ≡ f .size → ⊥) → writeBytes f a kept bs ≡ wrote (numberOf Length) kept
+  write-length a kept n = rw (ne-eqb (length bs) (f .size) n)
+
+  pub write-malformed : (a : A) (kept : List ℕ) → length bs ≡ f .size → f .ok a ≡ false → writeBytes f a kept bs ≡ wrote (f .malformed) kept
+  write-malformed a kept e ok = rw (eq-eqb (length bs) (f .size) e, ok)
+
+  pub write-contents : (a : A) (kept : List ℕ) → length bs ≡ f .size → f .ok a ≡ true → writeBytes f a kept bs ≡ wrote 0 (toBytes f a)
+  write-contents a kept e ok = rw (eq-eqb (length bs) (f .size) e, ok)
