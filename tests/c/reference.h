@@ -44,17 +44,16 @@ static bool reference_log_is_good(const uint32_t *fields)
 
 static bool reference_message_is_good(const uint32_t *fields)
 {
-    uint32_t engine = fields[1], n = fields[2], receiver = fields[4], estimate = fields[7], proposal = fields[8];
+    uint32_t kind = fields[0], engine = fields[1], n = fields[2], receiver = fields[4];
+    uint32_t estimate = fields[7], proposal = fields[8];
 
     if (!reference_setting_is_good(engine, n, fields[3], fields[5], fields[6]))
         return false;
-    switch (fields[0]) {
-    case 'C':
-        if (engine != 'B')
-            return false;
-        /* fall through */
+    switch (kind) {
     case 'F':
-        return receiver == 255 && reference_is_mileage(estimate) && estimate == proposal;
+    case 'C':
+        return (kind == 'F' || engine == 'B')
+            && receiver == 255 && reference_is_mileage(estimate) && estimate == proposal;
     case 'S':
         return receiver == 255 && reference_is_mileage_or_blank(proposal)
             && (reference_is_mileage(estimate) || (engine == 'B' && estimate == REFERENCE_SPLIT));

@@ -3,7 +3,7 @@ use mathlib.Core.Path.{_≡_, refl, sym, ap, ap₂, _∙_}
 use mathlib.Core.Bool.{Bool, true, false}
 use mathlib.Core.List.{List, [], _∷_, _++_, map}
 use mathlib.Core.Option.{some}
-use Prim.Native.Nat.{ℕ, suc, _+_, _<_, _^_}
+use Prim.Native.Nat.{ℕ, suc, _+_, _<_}
 use native.Mathlib.Omega.{arith}
 use lib.ListN.{length, getD, take, drop, replicate, length-append, length-drop, length-map, take-append-drop}
 use lib.Seq.{take-at, drop-at, getD-take, length-take-le}
@@ -27,8 +27,7 @@ use Rattle.codec.specs.Images.{TypedImage, imageWidths, imageNumbers, im
 use Rattle.codec.specs.Logs.{logWidths, logZero, logNumbers}
 use Rattle.codec.specs.Numbers.{Bytes, total, packInto}
 use Rattle.codec.specs.RoundTrip.{RoundTrip}
-use Rattle.codec.specs.declared.EngineRead.{EngineRead}
-use Rattle.codec.specs.declared.EngineRead.the-variants.{Is, Unknown}
+use Rattle.codec.specs.declared.EngineRead.the-variants.{Is}
 use Rattle.codec.proofs.Letters.{engine-letter, made, code-estimate, estimate-code, code-fits}
 use Rattle.codec.proofs.LogFormat as log
 use Rattle.codec.proofs.RoundTrips.{Lawful, round-trip, read-parsed}

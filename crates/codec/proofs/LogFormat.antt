@@ -3,7 +3,6 @@ use Prim.Native.Nat.{ℕ, _<_, _^_}
 use mathlib.Core.Path.{_≡_, refl}
 use mathlib.Core.Bool.{true}
 use mathlib.Core.List.{List}
-use mathlib.Core.Option.{some}
 use native.Mathlib.Omega.{arith}
 use lib.ListN.{length, getD}
 use Rattle.tally.specs.Limits.{Limits, logSize, logFields}
@@ -18,8 +17,7 @@ use Rattle.codec.specs.Codes.{engineOf}
 use Rattle.codec.specs.Formats.{withZero}
 use Rattle.codec.specs.Logs.{logWidths, logZero, logNumbers, logOf, logFormat, readLog, writeLog}
 use Rattle.codec.specs.RoundTrip.{RoundTrip}
-use Rattle.codec.specs.declared.EngineRead.{EngineRead}
-use Rattle.codec.specs.declared.EngineRead.the-variants.{Is, Unknown}
+use Rattle.codec.specs.declared.EngineRead.the-variants.{Is}
 use Rattle.codec.proofs.Letters.{engine-letter, letter-fits, letter-engine, made, code-estimate, estimate-code, code-fits, listed}
 use Rattle.codec.proofs.RoundTrips.{Lawful, round-trip}
 use Rattle.codec.proofs.Rows.{Fit}

@@ -1,14 +1,14 @@
 -- Both round trips, of any format whose fields obey the laws of `Lawful`. Assumes nothing.
 use Prim.Native.Nat.{ℕ, suc, _+_, _≤_, _<_}
 use mathlib.Core.Path.{_≡_, refl, sym, ap, _∙_}
-use mathlib.Core.Bool.{Bool, true, false, cond, false≢true}
+use mathlib.Core.Bool.{Bool, true, false, cond}
 use mathlib.Core.List.{List, [], _∷_, _++_}
 use mathlib.Core.Option.{Option, none, some}
 use native.Mathlib.Omega.{arith}
 use lib.Dec.{eqb}
 use lib.ListN.{length, getD, take, drop, length-append, length-drop, take-append-drop}
 use lib.Seq.{take-at, drop-at, getD-at, split-at, append-snoc, length-take-le}
-use borrow.Author.Tests.{eq-eqb, ne-eqb, eqb-true}
+use borrow.Author.Tests.{ne-eqb, eqb-true}
 use Rattle.codec.specs.Formats.{Reading, reading, Wrote, wrote, Format, withZero, without, rowNumbers, zeroByte, checked, fromNumbers, readBytes, toBytes, writeBytes}
 use Rattle.codec.specs.Numbers.{Bytes, total, unpack, pack}
 use Rattle.codec.specs.RoundTrip.{RoundTrip}
@@ -148,5 +148,5 @@ module _ {A : Type 0} (f : Format A) (Typed : A → Type 0) (law : Lawful f Type
         same = λ bs a b e out size. let g = written-read bs a b e in write-contents f out a (kept out) size (g .0) ∙ ap (wrote 0) (g .1);
         refused =
             λ a bs bad size.
-                (ap (λ (w : Wrote). w .number) (write-malformed f bs a (kept bs) size bad), λ cs e. never (sym bad ∙ read-fields cs a e .0));
+            (ap (λ (w : Wrote). w .number) (write-malformed f bs a (kept bs) size bad), λ cs e. never (sym bad ∙ read-fields cs a e .0));
       }

@@ -1,9 +1,9 @@
 -- Reading and writing, one law a branch. Assumes nothing.
 use Prim.Native.Nat.{ℕ}
-use mathlib.Core.Path.{_≡_, refl}
-use mathlib.Core.Bool.{true, false}
+use mathlib.Core.Path.{_≡_, refl, ap}
+use mathlib.Core.Bool.{Bool, true, false, cond}
 use mathlib.Core.List.{List}
-use mathlib.Core.Option.{some, none}
+use lib.Dec.{eqb}
 use lib.ListN.{length, getD}
 use borrow.Author.Tests.{eq-eqb, ne-eqb}
 use Rattle.tally.specs.Refusal.{numberOf}
@@ -11,7 +11,8 @@ use Rattle.tally.specs.declared.Engine.{Engine}
 use Rattle.tally.specs.declared.Refusal.the-variants.{Length}
 use Rattle.codec.specs.Codes.{engineOf, withEngine}
 use Rattle.codec.specs.Formats.{reading, wrote, Format, rowNumbers, zeroByte, checked, fromNumbers, readBytes, toBytes, writeBytes}
-use Rattle.codec.specs.declared.EngineRead.the-variants.{Is, Unknown}
+use Rattle.codec.specs.declared.EngineRead.{EngineRead}
+use Rattle.codec.specs.declared.EngineRead.the-variants.{Unknown}
 
 module _ {A : Type 0} (f : Format A) (bs : List ℕ) where
   pub read-length : (length bs ≡ f .size → ⊥) → readBytes f bs ≡ reading (numberOf Length) (f .nothing)
@@ -22,6 +23,18 @@ module _ {A : Type 0} (f : Format A) (bs : List ℕ) where
 
   pub read-row : length bs ≡ f .size → zeroByte f bs ≡ 0 → readBytes f bs ≡ fromNumbers f (rowNumbers f bs)
   read-row e z = rw (eq-eqb (length bs) (f .size) e, eq-eqb (zeroByte f bs) 0 z)
+
+  -- formats that begin with an engine's letter: it is unknown also where the zero byte is not 0
+  module _ (make : Engine → List ℕ → A) (letters : (vs : List ℕ) → f .parse vs ≡ withEngine make (engineOf (getD vs 0 0)) vs)
+      (size : length bs ≡ f .size) where
+    pub read-engine : (o : EngineRead) → cond (eqb (zeroByte f bs) 0) (engineOf (getD (rowNumbers f bs) 0 0)) Unknown ≡ o
+        → readBytes f bs ≡ checked f (withEngine make o (rowNumbers f bs))
+    read-engine o h = rw (eq-eqb (length bs) (f .size) size, ← h) (go (eqb (zeroByte f bs) 0))
+      where
+        go : (t : Bool) → cond t (fromNumbers f (rowNumbers f bs)) (reading (f .malformed) (f .nothing))
+            ≡ checked f (withEngine make (cond t (engineOf (getD (rowNumbers f bs) 0 0)) Unknown) (rowNumbers f bs))
+        go true = ap (checked f) (letters (rowNumbers f bs))
+        go false = refl
 
   pub write-length : (a : A) (kept : List ℕ) → (length bs ≡ f .size → ⊥) → writeBytes f a kept bs ≡ wrote (numberOf Length) kept
   write-length a kept n = rw (ne-eqb (length bs) (f .size) n)

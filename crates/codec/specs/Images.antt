@@ -1,7 +1,7 @@
 -- The bytes of an image. Assumes nothing.
 use Prim.Native.Nat.{ℕ, _+_}
 use mathlib.Core.List.{List, _∷_, _++_, map}
-use mathlib.Core.Option.{Option, none, some}
+use mathlib.Core.Option.{Option}
 use lib.ListN.{length, getD, take, drop, replicate}
 use Rattle.tally.specs.Limits.{Limits, imageSize, logFields, senders}
 use Rattle.tally.specs.Refusal.{numberOf}
@@ -16,8 +16,6 @@ use Rattle.contents.specs.declared.Log.{Log}
 use Rattle.codec.specs.Codes.{engineOf, withEngine, codeOf, estimateOf}
 use Rattle.codec.specs.Formats.{Reading, reading, Wrote, Format, rowNumbers, readBytes, toBytes, writeBytes}
 use Rattle.codec.specs.Logs.{logWidths, logZero, logNumbers, logOf, noLog}
-use Rattle.codec.specs.declared.EngineRead.{EngineRead}
-use Rattle.codec.specs.declared.EngineRead.the-variants.{Is, Unknown}
 use Rattle.codec.specs.declared.ImageRead.{ImageRead}
 
 -- what the code's types say of an image

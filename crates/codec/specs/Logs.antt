@@ -1,7 +1,9 @@
 -- The bytes of a log. Assumes nothing.
 use Prim.Native.Nat.{ℕ}
+use mathlib.Core.Bool.{cond}
 use mathlib.Core.List.{List, [], _∷_}
-use mathlib.Core.Option.{Option, none, some}
+use mathlib.Core.Option.{Option}
+use lib.Dec.{eqb}
 use lib.ListN.{getD}
 use Rattle.tally.specs.Limits.{Limits, logSize, logFields}
 use Rattle.tally.specs.Refusal.{numberOf}
@@ -12,9 +14,10 @@ use Rattle.tally.specs.declared.Refusal.{Refusal}
 use Rattle.contents.specs.Logs.{logOk}
 use Rattle.contents.specs.declared.Log.{Log}
 use Rattle.codec.specs.Codes.{letterOf, engineOf, withEngine, codeOf, estimateOf}
-use Rattle.codec.specs.Formats.{Reading, reading, Wrote, Format, rowNumbers, readBytes, toBytes, writeBytes}
+use Rattle.codec.specs.Formats.{Reading, reading, Wrote, Format, rowNumbers, readBytes, writeBytes}
 use Rattle.codec.specs.declared.EngineRead.{EngineRead}
-use Rattle.codec.specs.declared.EngineRead.the-variants.{Is, Unknown}
+use Rattle.codec.specs.declared.EngineRead.the-variants.{Unknown}
+use Rattle.codec.specs.Numbers.{numAt}
 use Rattle.codec.specs.declared.LogRead.{LogRead}
 use Rattle.codec.specs.declared.LogRead.the-variants.{Read, Refused}
 
@@ -81,3 +84,9 @@ readLog l bs = readBytes (logFormat l) bs
 -- a refused log write leaves every byte
 unfoldable pub writeLog : Limits → Log → List ℕ → Wrote
 writeLog l r bs = writeBytes (logFormat l) r bs bs
+
+-- ---- what a helper of the code promises, and no public contract says
+
+-- the engine of a log or an image, unknown also where the zero byte is not 0
+abbrev pub engineAt : List ℕ → EngineRead
+engineAt bs = cond (eqb (numAt bs logZero 1) 0) (engineOf (numAt bs 0 1)) EngineRead.Unknown

@@ -16,7 +16,7 @@ use Rattle.contents.specs.declared.Kind.{Kind}
 use Rattle.contents.specs.declared.Kind.the-variants.{Empty}
 use Rattle.contents.specs.declared.Message.{Message}
 use Rattle.codec.specs.Codes.{letterOf, engineOf, kindLetter, kindOf, codeOf, estimateOf}
-use Rattle.codec.specs.Formats.{Reading, reading, Wrote, wrote, Format, rowNumbers, readBytes, toBytes, writeBytes}
+use Rattle.codec.specs.Formats.{Reading, reading, Wrote, wrote, Format, rowNumbers, readBytes, writeBytes}
 use Rattle.codec.specs.declared.EngineRead.{EngineRead}
 use Rattle.codec.specs.declared.EngineRead.the-variants.{Is, Unknown}
 use Rattle.codec.specs.declared.KindRead.{KindRead}

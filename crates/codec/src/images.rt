@@ -22,10 +22,9 @@ ghost use lib.ListN.{length};
 ghost use Rattle.tally.specs.Limits.{today, imageSize, senders};
 ghost use Rattle.tally.specs.Refusal.{numberOf};
 ghost use Rattle.codec.specs.Numbers.{total, unpack, packInto};
-ghost use Rattle.codec.specs.Formats.{without, wrote, checked};
-ghost use Rattle.codec.specs.Logs.{logZero};
+ghost use Rattle.codec.specs.Formats.{reading, wrote, checked};
 ghost use Rattle.codec.specs.Images.{cellOf, cellCode, cellWidths, tallyWidths, tallyOf, tallyNumbers, noImage};
-ghost use Rattle.codec.specs.Images.{imageWidths, imageOf, imageRow, imageFormat, imageBytes, imageReading, readImage, writeImage};
+ghost use Rattle.codec.specs.Images.{imageOf, imageRow, imageFormat, imageBytes, imageReading, readImage, writeImage};
 
 // Where the tallies stand, and where a tally's estimates do.
 const AT_CHECKS: usize = limits::LOG_SIZE;
@@ -104,7 +103,7 @@ fn image_at(engine: Engine, s: &[u8]) -> Image
 
 // What stands in the place of an image that is refused.
 fn refused(refusal: Refusal) -> ImageRead
-    ensures { λ r. ⌜ (r .refusal ≡ refusal) × (r .image ≡ noImage) ⌝ }
+    ensures { λ r. ⌜ imageReading r ≡ reading (numberOf refusal) noImage ⌝ }
 {
     let settings = Settings {
         engine: Engine::B,
@@ -146,10 +145,7 @@ pub fn read_image(s: &[u8]) -> ImageRead
     if s.len() != limits::IMAGE_SIZE {
         return refused(Refusal::Length);
     }
-    if numbers::be8(s, logs::AT_ZERO) != 0 {
-        return refused(Refusal::Image);
-    }
-    match codes::engine_of(numbers::be8(s, 0)) {
+    match logs::engine_at(s) {
         EngineRead::Is(e) => checked_image(image_at(e, s)),
         EngineRead::Unknown => refused(Refusal::Image),
     }

@@ -17,17 +17,17 @@ ghost use Prim.Native.Nat.{_+_, _≤_};
 ghost use lib.ListN.{length};
 ghost use Rattle.tally.specs.Limits.{today, logSize};
 ghost use Rattle.tally.specs.Refusal.{numberOf};
-ghost use Rattle.codec.specs.Numbers.{unpack, packInto};
+ghost use Rattle.codec.specs.Numbers.{packInto};
 ghost use Rattle.codec.specs.Codes.{codeOf};
-ghost use Rattle.codec.specs.Formats.{without, withZero, wrote, checked};
-ghost use Rattle.codec.specs.Logs.{logWidths, logZero, logOf, logRow, logNumbers, logFormat, logReading, readLog, writeLog};
+ghost use Rattle.codec.specs.Formats.{withZero, wrote, checked};
+ghost use Rattle.codec.specs.Logs.{logWidths, logZero, engineAt, logOf, logRow, logNumbers, logFormat, logReading, readLog, writeLog};
 
 // Where the fields stand, after the engine letter.
 const AT_N: usize = 1;
 
 const AT_UNIT: usize = 2;
 
-pub(crate) const AT_ZERO: usize = 3;
+const AT_ZERO: usize = 3;
 
 const AT_ENTRY: usize = 4;
 
@@ -38,6 +38,17 @@ const AT_PROPOSAL: usize = AT_ROUND + limits::ROUND_WIDTH;
 const AT_FIRST: usize = AT_PROPOSAL + 4;
 
 const AT_SECOND: usize = AT_FIRST + 4;
+
+// The engine of a log or an image; unknown also where the zero byte is not 0.
+pub(crate) fn engine_at(s: &[u8]) -> EngineRead
+    requires { ⌜ logSize today ≤ length (now s) ⌝ }
+    ensures { λ r. ⌜ r ≡ engineAt (now (s .entry)) ⌝ }
+{
+    if numbers::be8(s, AT_ZERO) != 0 {
+        return EngineRead::Unknown;
+    }
+    codes::engine_of(numbers::be8(s, 0))
+}
 
 // The contents that the bytes hold, at an engine.
 pub(crate) fn log_at(engine: Engine, s: &[u8]) -> Log
@@ -77,10 +88,7 @@ pub fn read_log(s: &[u8]) -> LogRead
     if s.len() != limits::LOG_SIZE {
         return LogRead::Refused(Refusal::Length);
     }
-    if numbers::be8(s, AT_ZERO) != 0 {
-        return LogRead::Refused(Refusal::Log);
-    }
-    match codes::engine_of(numbers::be8(s, 0)) {
+    match engine_at(s) {
         EngineRead::Is(e) => checked_log(log_at(e, s)),
         EngineRead::Unknown => LogRead::Refused(Refusal::Log),
     }

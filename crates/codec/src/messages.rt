@@ -14,8 +14,8 @@ ghost use mathlib.Core.Option.{some};
 ghost use lib.ListN.{length};
 ghost use Rattle.tally.specs.Limits.{today, messageSize};
 ghost use Rattle.tally.specs.Refusal.{numberOf};
-ghost use Rattle.codec.specs.Numbers.{unpack, packInto};
-ghost use Rattle.codec.specs.Formats.{without, withZero, wrote, checked};
+ghost use Rattle.codec.specs.Numbers.{packInto};
+ghost use Rattle.codec.specs.Formats.{withZero, wrote, checked};
 ghost use Rattle.codec.specs.Messages.{messageWidths, messageZero, messageOf, messageRow, messageNumbers, messageFormat, messageReading, lettersRead};
 ghost use Rattle.codec.specs.Messages.{cleared, readMessage, writeMessage, writeEmpty};
 

@@ -1,6 +1,6 @@
 -- The calls over any lawful format: what writing contents answers, and both round trips between fields and bytes. Assumes nothing.
 use Prim.Native.Nat.{ℕ, _+_, _≤_}
-use mathlib.Core.Path.{_≡_, refl, ap}
+use mathlib.Core.Path.{_≡_, refl, sym, ap}
 use mathlib.Core.Bool.{Bool, true, false, cond, _&&_}
 use mathlib.Core.List.{List, append-nil}
 use mathlib.Core.Option.{some}
@@ -9,10 +9,13 @@ use lib.Dec.{eqb}
 use lib.ListN.{length, drop-of-length-le}
 use lib.Seq.{sets, sets-eq}
 use borrow.Author.Tests.{eq-eqb, ne-eqb, eqb-true, eqb-false}
-use Rattle.contents.proofs.Tests.{and-true}
-use Rattle.codec.specs.Formats.{Reading, reading, wrote, Format, checked, fromNumbers, readBytes, toBytes, writeBytes}
-use Rattle.codec.specs.Numbers.{Bytes}
-use Rattle.codec.proofs.RoundTrips.{Lawful, from-numbers, numbers-back, read-written, written-read}
+use Rattle.contents.proofs.Tests.{both-true}
+use Rattle.codec.specs.Formats.{Reading, reading, wrote, Format, withZero, checked, fromNumbers, readBytes, toBytes, writeBytes}
+use Rattle.codec.specs.Numbers.{Bytes, pack}
+use Rattle.codec.proofs.Rows.{Fit}
+use Rattle.tally.specs.Refusal.{numberOf}
+use Rattle.tally.specs.declared.Refusal.the-variants.{Length}
+use Rattle.codec.proofs.RoundTrips.{Lawful, from-numbers, numbers-back, read-numbers, read-written, written-read, refused-number}
 use Rattle.codec.specs.Logs.{logFormat}
 use Rattle.codec.specs.Messages.{messageFormat, cleared}
 use Rattle.codec.proofs.LogFormat as log
@@ -36,9 +39,23 @@ module _ {A : Type 0} (f : Format A) (law : Lawful f (λ a. Unit)) where
       go true = refl
       go false = rw (ne-eqb (f .malformed) 0 (law .refuses))
 
-  -- contents that were not taken leave what is kept
-  pub put-refused : (kept : List ℕ) → putChecked f (reading (f .malformed) (f .nothing)) kept ≡ wrote (f .malformed) kept
-  put-refused kept = rw (ne-eqb (f .malformed) 0 (law .refuses))
+  -- what a read call answers where the fields' length is right
+  pub read-accepted : (bs fs : List ℕ) (a : A) → length fs ≡ f .fields → readBytes f bs ≡ reading 0 a → readCall f bs fs ≡ wrote 0 (f .numbers a)
+  read-accepted bs fs a len e = rw (eq-eqb (length fs) (f .fields) len, e)
+
+  pub read-refused : (bs fs : List ℕ) (k : ℕ) → length fs ≡ f .fields → readBytes f bs ≡ reading k (f .nothing) → readCall f bs fs ≡ wrote k fs
+  read-refused bs fs k len e = rw (eq-eqb (length fs) (f .fields) len, e, refused-number f (λ a. Unit) law bs k e)
+
+  -- writing numbers that fit their bytes gives the number that reading these bytes would give
+  pub same-number : (fs kept bs : List ℕ) → length fs ≡ f .fields → length bs ≡ f .size → Fit (f .widths) (withZero (f .zeroAt) fs)
+      → writeCall f fs kept bs .number ≡ readBytes f (pack (f .widths) (withZero (f .zeroAt) fs)) .number
+  same-number fs kept bs len size fit =
+      rw (eq-eqb (length fs) (f .fields) len, eq-eqb (length bs) (f .size) size, read-numbers f (λ a. Unit) law fs len fit)
+      (go (fromNumbers f fs) (eqb (fromNumbers f fs .number) 0) refl)
+    where
+      go : (r : Reading A) (t : Bool) → eqb (r .number) 0 ≡ t → cond t (wrote 0 (toBytes f (r .contents))) (wrote (r .number) kept) .number ≡ r .number
+      go r true e = sym (eqb-true (r .number) 0 e)
+      go r false e = refl
 
   -- what is written is read back as the same fields, and what is read is written back to the same bytes
   pub field-trip : (kept : List ℕ → List ℕ) → FieldTrip (f .fields) (f .size) (readCall f) (λ fs bs. writeCall f fs (kept bs) bs)
@@ -54,8 +71,8 @@ module _ {A : Type 0} (f : Format A) (law : Lawful f (λ a. Unit)) where
           r : Reading A
           r = fromNumbers f fs
 
-          go : (t : Bool) → (eqb (length fs) (f .fields) && eqb (length bs) (f .size)) ≡ t → cond t (putChecked f r (kept bs)) (wrote 1 (kept bs)) .number ≡ 0
-              → readCall f (cond t (putChecked f r (kept bs)) (wrote 1 (kept bs)) .out) out ≡ wrote 0 fs
+          go : (t : Bool) → (eqb (length fs) (f .fields) && eqb (length bs) (f .size)) ≡ t → cond t (putChecked f r (kept bs)) (wrote (numberOf Length) (kept bs)) .number ≡ 0
+              → readCall f (cond t (putChecked f r (kept bs)) (wrote (numberOf Length) (kept bs)) .out) out ≡ wrote 0 fs
           go false l e = absurd (omega arith)
           go true l e = by (eqb (r .number) 0) refl e
             where
@@ -63,7 +80,7 @@ module _ {A : Type 0} (f : Format A) (law : Lawful f (λ a. Unit)) where
                   → readCall f (cond t (wrote 0 (toBytes f (r .contents))) (wrote (r .number) (kept bs)) .out) out ≡ wrote 0 fs
               by false n e = absurd (eqb-false (r .number) 0 n e)
               by true n e =
-                  let many = eqb-true (length fs) (f .fields) (and-true (eqb (length fs) (f .fields)) (eqb (length bs) (f .size)) l .0) in
+                  let many = eqb-true (length fs) (f .fields) (both-true (eqb (length fs) (f .fields)) (eqb (length bs) (f .size)) l .0) in
                   let g = numbers-back f (λ a. Unit) law fs (r .contents) many (accepted r n) in
                   rw (eq-eqb (length out) (f .fields) len, read-written f (λ a. Unit) law (r .contents) tt (g .0)) (ap (wrote 0) (g .1))
 
@@ -74,8 +91,8 @@ module _ {A : Type 0} (f : Format A) (law : Lawful f (λ a. Unit)) where
           r : Reading A
           r = readBytes f bs
 
-          go : (t : Bool) → cond t (putNumbers f r fs) (wrote 1 fs) .number ≡ 0
-              → writeCall f (cond t (putNumbers f r fs) (wrote 1 fs) .out) (kept out) out ≡ wrote 0 bs
+          go : (t : Bool) → cond t (putNumbers f r fs) (wrote (numberOf Length) fs) .number ≡ 0
+              → writeCall f (cond t (putNumbers f r fs) (wrote (numberOf Length) fs) .out) (kept out) out ≡ wrote 0 bs
           go false e = absurd (omega arith)
           go true e = by (eqb (r .number) 0) refl e
             where

@@ -11,9 +11,12 @@ use lib.Seq.{getD-at, append-snoc}
 use borrow.Author.Tests.{lt-ltb, ltb-true}
 use Rattle.contents.proofs.Tests as tests
 use Rattle.codec.specs.Formats.{reading, Format, withZero, without, checked, fromNumbers}
+use Rattle.tally.specs.Limits.{Limits}
+use Rattle.codec.specs.Logs.{logFormat}
+use Rattle.codec.specs.Messages.{messageFormat}
 use Rattle.codec.proofs.RoundTrips.{Lawful, without-zero}
 use Rattle.codec.proofs.Rows.{Fit, fit-append}
-use Rattle.mileage.specs.Fields.{narrow, logNarrow, messageNarrow}
+use Rattle.mileage.specs.Fields.{narrow, headWidths, logHead, logNarrow, messageHead, messageNarrow}
 
 -- each number from place o on fits its width
 abbrev pub Small : ℕ → List ℕ → List ℕ → Type 0
@@ -24,16 +27,16 @@ small : (ok : Bool) (o : ℕ) (ws vs : List ℕ) → narrow ok o ws vs ≡ true 
 small ok o [] vs h = (h, tt)
 small ok o (w ∷ ws) vs h =
     let r = small (ok && ltb (getD vs o 0) (256 ^ w)) (suc o) ws vs h in
-    let a = tests.and-true ok (ltb (getD vs o 0) (256 ^ w)) (r .0) in
+    let a = tests.both-true ok (ltb (getD vs o 0) (256 ^ w)) (r .0) in
     (a .0, (ltb-true _ _ (a .1), r .1))
 
-pub log-small : (vs : List ℕ) → logNarrow vs ≡ true → Small 0 (1 ∷ 1 ∷ 1 ∷ 2 ∷ 2 ∷ []) vs
+pub log-small : (l : Limits) (vs : List ℕ) → logNarrow l vs ≡ true → Small 0 (headWidths (logFormat l) logHead) vs
 unfolding logNarrow
-log-small vs h = small true 0 (1 ∷ 1 ∷ 1 ∷ 2 ∷ 2 ∷ []) vs h .1
+log-small l vs h = small true 0 (headWidths (logFormat l) logHead) vs h .1
 
-pub message-small : (vs : List ℕ) → messageNarrow vs ≡ true → Small 0 (1 ∷ 1 ∷ 1 ∷ 1 ∷ 1 ∷ 2 ∷ 2 ∷ []) vs
+pub message-small : (l : Limits) (vs : List ℕ) → messageNarrow l vs ≡ true → Small 0 (headWidths (messageFormat l) messageHead) vs
 unfolding messageNarrow
-message-small vs h = small true 0 (1 ∷ 1 ∷ 1 ∷ 1 ∷ 1 ∷ 2 ∷ 2 ∷ []) vs h .1
+message-small l vs h = small true 0 (headWidths (messageFormat l) messageHead) vs h .1
 
 -- numbers that fit their widths are narrow
 fit-narrow : (ok : Bool) (ws vs p : List ℕ) (o k : ℕ) → length p ≡ o → Fit ws vs → narrow ok o (take k ws) (p ++ vs) ≡ ok
@@ -62,7 +65,7 @@ fit-drop (suc k) (w ∷ ws) (v ∷ vs) h = fit-drop k ws vs (h .1)
 
 -- numbers of which one is too large for its bytes are refused
 pub too-large : {A : Type 0} (f : Format A) (law : Lawful f (λ a. Unit)) (vs : List ℕ) (k : ℕ) → length vs ≡ f .fields
-    → narrow true 0 (take k (without (f .zeroAt) (f .widths))) vs ≡ false → fromNumbers f vs ≡ reading (f .malformed) (f .nothing)
+    → narrow true 0 (headWidths f k) vs ≡ false → fromNumbers f vs ≡ reading (f .malformed) (f .nothing)
 too-large f law vs k len wide = go (f .parse vs) refl
   where
     z : ℕ

@@ -1,17 +1,19 @@
 -- Logs and messages between plain numbers and bytes: what the four calls answer. Assumes nothing.
-use Prim.Native.Nat.{ℕ, suc, _^_}
+use Prim.Native.Nat.{ℕ, suc, _-_, _^_}
 use mathlib.Core.Bool.{Bool, true, cond, _&&_}
 use mathlib.Core.List.{List, [], _∷_}
 use mathlib.Core.Path.{_≡_}
 use lib.Dec.{eqb, ltb}
 use lib.ListN.{length, getD, take}
-use Rattle.tally.specs.Limits.{Limits, today}
+use Rattle.tally.specs.Limits.{Limits, logFields, messageFields}
 use Rattle.tally.specs.Refusal.{numberOf}
 use Rattle.tally.specs.declared.Refusal.the-variants.{Length}
-use Rattle.codec.specs.Formats.{Reading, Wrote, wrote, Format, without, fromNumbers, readBytes, toBytes}
+use Rattle.codec.specs.Formats.{Reading, Wrote, wrote, Format, without, checked, fromNumbers, readBytes, toBytes}
 use Rattle.codec.specs.Logs.{logFormat}
-use Rattle.codec.specs.Messages.{messageFormat, cleared}
+use Rattle.codec.specs.Messages.{lettersRead, messageFormat, cleared}
 use Rattle.codec.specs.Numbers.{Bytes}
+use Rattle.codec.specs.declared.EngineRead.{EngineRead}
+use Rattle.codec.specs.declared.KindRead.{KindRead}
 
 -- the numbers of what was read, or the fields as they were
 abbrev pub putNumbers : {A : Type 0} → Format A → Reading A → List ℕ → Wrote
@@ -51,14 +53,31 @@ pub record FieldTrip (fields size : ℕ) (read write : List ℕ → List ℕ →
   -- whatever is read is written back to the same bytes
   pub same : (bs fs out : List ℕ) → Bytes bs → read bs fs .number ≡ 0 → length out ≡ size → write (read bs fs .out) out ≡ wrote 0 bs
 
--- the numbers from place o on fit these many bytes each; what the code tests before it takes them
+-- ---- what helpers of the code promise, and no public contract says
+
+-- the numbers from place o on fit these many bytes each
 abbrev pub narrow : Bool → ℕ → List ℕ → List ℕ → Bool
 narrow ok o [] vs = ok
 narrow ok o (w ∷ ws) vs = narrow (ok && ltb (getD vs o 0) (256 ^ w)) (suc o) ws vs
 
--- all but the estimates, which have the width of the numbers given
-unfoldable pub logNarrow : List ℕ → Bool
-logNarrow vs = narrow true 0 (take 5 (without (logFormat today .zeroAt) (logFormat today .widths))) vs
+-- the widths of the first k numbers
+abbrev pub headWidths : {A : Type 0} → Format A → ℕ → List ℕ
+headWidths f k = take k (without (f .zeroAt) (f .widths))
 
-unfoldable pub messageNarrow : List ℕ → Bool
-messageNarrow vs = narrow true 0 (take 7 (without (messageFormat today .zeroAt) (messageFormat today .widths))) vs
+-- all numbers of a log but its three estimates, which have the width of the numbers given
+abbrev pub logHead : ℕ
+logHead = logFields - 3
+
+unfoldable pub logNarrow : Limits → List ℕ → Bool
+logNarrow l vs = narrow true 0 (headWidths (logFormat l) logHead) vs
+
+-- all of a message but its two
+abbrev pub messageHead : ℕ
+messageHead = messageFields - 2
+
+unfoldable pub messageNarrow : Limits → List ℕ → Bool
+messageNarrow l vs = narrow true 0 (headWidths (messageFormat l) messageHead) vs
+
+-- writing a message whose letters have been looked up
+abbrev pub writeKnown : Limits → KindRead → EngineRead → List ℕ → List ℕ → Wrote
+writeKnown l k e fs bs = putChecked (messageFormat l) (checked (messageFormat l) (lettersRead k e fs)) (cleared l bs)

@@ -8,8 +8,10 @@ use tally::Engine;
 use tally::limits::Round;
 ghost use mathlib.Core.Path.{_≡_};
 ghost use mathlib.Core.Bool.{true};
+ghost use Prim.Native.Nat.{_^_};
+ghost use lib.Dec.{ltb};
 ghost use lib.ListN.{length};
-ghost use Rattle.tally.specs.Limits.{logFields, messageFields};
+ghost use Rattle.tally.specs.Limits.{today, logFields, messageFields};
 ghost use Rattle.codec.specs.Logs.{logNumbers, logOf};
 ghost use Rattle.codec.specs.Messages.{messageNumbers, messageOf};
 ghost use Rattle.mileage.specs.Fields.{logNarrow, messageNarrow};
@@ -17,13 +19,13 @@ ghost use Rattle.mileage.specs.Fields.{logNarrow, messageNarrow};
 // Does each number fit its bytes?
 pub(crate) fn log_narrow(f: &[u32]) -> bool
     requires { ⌜ length (now f) ≡ logFields ⌝ }
-    ensures { λ r. ⌜ r ≡ logNarrow (now (f .entry)) ⌝ }
+    ensures { λ r. ⌜ r ≡ logNarrow today (now (f .entry)) ⌝ }
 {
-    (f[0] < 256) & (f[1] < 256) & (f[2] < 256) & (f[3] < 65536) & (f[4] < 65536)
+    (f[0] < 256) & (f[1] < 256) & (f[2] < 256) & (f[3] < 65536) & round_narrow(f[4])
 }
 
 pub(crate) fn log_of(engine: Engine, f: &[u32]) -> Log
-    requires { ⌜ (length (now f) ≡ logFields) × (logNarrow (now f) ≡ true) ⌝ }
+    requires { ⌜ (length (now f) ≡ logFields) × (logNarrow today (now f) ≡ true) ⌝ }
     ensures { λ r. ⌜ r ≡ logOf engine (now (f .entry)) ⌝ }
 {
     Log {
@@ -56,7 +58,7 @@ pub(crate) fn put_log(log: Log, f: &mut [u32])
     f[1] = wide8(settings.n);
     f[2] = wide8(settings.unit);
     f[3] = wide16(settings.entry);
-    f[4] = wide16(state.round);
+    f[4] = wide_round(state.round);
     f[5] = codec::codes::code_of(proposal);
     f[6] = codec::codes::code_of(first);
     f[7] = codec::codes::code_of(second);
@@ -64,7 +66,7 @@ pub(crate) fn put_log(log: Log, f: &mut [u32])
 
 pub(crate) fn message_narrow(f: &[u32]) -> bool
     requires { ⌜ length (now f) ≡ messageFields ⌝ }
-    ensures { λ r. ⌜ r ≡ messageNarrow (now (f .entry)) ⌝ }
+    ensures { λ r. ⌜ r ≡ messageNarrow today (now (f .entry)) ⌝ }
 {
     (f[0] < 256)
         & (f[1] < 256)
@@ -72,11 +74,11 @@ pub(crate) fn message_narrow(f: &[u32]) -> bool
         & (f[3] < 256)
         & (f[4] < 256)
         & (f[5] < 65536)
-        & (f[6] < 65536)
+        & round_narrow(f[6])
 }
 
 pub(crate) fn message_of(kind: Kind, engine: Engine, f: &[u32]) -> Message
-    requires { ⌜ (length (now f) ≡ messageFields) × (messageNarrow (now f) ≡ true) ⌝ }
+    requires { ⌜ (length (now f) ≡ messageFields) × (messageNarrow today (now f) ≡ true) ⌝ }
     ensures { λ r. ⌜ r ≡ messageOf kind engine (now (f .entry)) ⌝ }
 {
     Message {
@@ -106,9 +108,22 @@ pub(crate) fn put_message(m: Message, f: &mut [u32])
     f[3] = wide8(m.sender);
     f[4] = wide8(m.receiver);
     f[5] = wide16(m.entry);
-    f[6] = wide16(m.round);
+    f[6] = wide_round(m.round);
     f[7] = codec::codes::code_of(estimate);
     f[8] = codec::codes::code_of(proposal);
+}
+
+// A round as a number, and the numbers that are rounds of that many bytes.
+fn round_narrow(x: u32) -> bool
+    ensures { λ r. ⌜ r ≡ ltb x (256 ^ today .roundWidth) ⌝ }
+{
+    x < 65536
+}
+
+fn wide_round(x: Round) -> u32
+    ensures { λ r. ⌜ r ≡ x ⌝ }
+{
+    x as u32
 }
 
 fn wide8(x: u8) -> u32

@@ -12,9 +12,9 @@ ghost use mathlib.Core.Bool.{true};
 ghost use lib.ListN.{length};
 ghost use Rattle.tally.specs.Limits.{today, messageSize, messageFields};
 ghost use Rattle.tally.specs.Refusal.{numberOf};
-ghost use Rattle.codec.specs.Formats.{wrote, checked};
-ghost use Rattle.codec.specs.Messages.{lettersRead, messageFormat, cleared};
-ghost use Rattle.mileage.specs.Fields.{messageNarrow, putChecked, readLogCall, writeLogCall, readMessageCall, writeMessageCall};
+ghost use Rattle.codec.specs.Formats.{wrote};
+ghost use Rattle.codec.specs.Messages.{cleared};
+ghost use Rattle.mileage.specs.Fields.{messageNarrow, writeKnown, readLogCall, writeLogCall, readMessageCall, writeMessageCall};
 
 // Reads a log's eight numbers: engine letter, n, unit, entry, round, proposal, first and second estimate.
 #[no_mangle]
@@ -80,8 +80,8 @@ fn refuse(why: Refusal, message: &mut [u8]) -> u32
 
 // Writes a message whose letters have been looked up.
 fn write_known(kind: KindRead, engine: EngineRead, fields: &[u32], message: &mut [u8]) -> u32
-    requires { ⌜ (length (now fields) ≡ messageFields) × ((messageNarrow (now fields) ≡ true) × (length (now message) ≡ messageSize today)) ⌝ }
-    ensures { λ r. ⌜ wrote r (now (message .exit)) ≡ putChecked (messageFormat today) (checked (messageFormat today) (lettersRead kind engine (now (fields .entry)))) (cleared today (now (message .entry))) ⌝ }
+    requires { ⌜ (length (now fields) ≡ messageFields) × ((messageNarrow today (now fields) ≡ true) × (length (now message) ≡ messageSize today)) ⌝ }
+    ensures { λ r. ⌜ wrote r (now (message .exit)) ≡ writeKnown today kind engine (now (fields .entry)) (now (message .entry)) ⌝ }
 {
     match kind {
         KindRead::Is(k) => match engine {

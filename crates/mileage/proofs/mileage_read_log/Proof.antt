@@ -1,14 +1,13 @@
 use mathlib.Core.Path.{sym, ap, _∙_}
-use borrow.Author.Tests.{eq-eqb, ne-eqb}
+use borrow.Author.Needs.{needs}
+use borrow.Author.Tests.{ne-eqb}
 use Rattle.tally.specs.Limits.{today}
-use Rattle.tally.specs.Refusal.{numberOf}
 use Rattle.tally.proofs.Bounds.{sane-today}
 use Rattle.codec.specs.Formats.{wrote}
 use Rattle.codec.specs.Logs.{logFormat, logReading, readLog}
-use Rattle.codec.proofs.RoundTrips.{refused-number}
 use Rattle.codec.proofs.LogFormat.{lawful}
 use Rattle.mileage.specs.Fields.{readLogCall}
-use borrow.Author.Needs.{needs}
+use Rattle.mileage.proofs.Calls.{read-accepted, read-refused}
 use Rattle.mileage.proofs.mileage_read_log.Statement.{statement}
 use Rattle.mileage.proofs.mileage_read_log.Tie as tie
 
@@ -16,17 +15,19 @@ returns-2 : tie.Need-returns-2
 unfolding readLog readLogCall
 returns-2 c =
     let b = c .before .before .before .before .before .before in
-    let taken = sym (b .before .before .read-log .ensures) ∙ ap logReading (b .l .given .1) in
-    rw (eq-eqb _ _ (b .before .before .before .if1 .left), taken, c .number2 .ensures) (ap (wrote 0) (c .before .before .before .put-log .ensures))
+    let start = c .before .before .before .before .before .before .before .before .before .before .before .before .args in
+    let accepted = sym (b .before .before .read-log .ensures) ∙ ap logReading (b .l .given .1) in
+    rw (c .number2 .ensures)
+    (ap (wrote 0) (c .before .before .before .put-log .ensures)
+    ∙ sym (read-accepted (logFormat today) (lawful today sane-today) (start .log .now) (start .fields .now) _ (b .before .before .before .if1 .left) accepted))
 
 returns-3 : tie.Need-returns-3
 unfolding readLog readLogCall
 returns-3 c =
     let b = c .before .before .before .before in
-    let taken = sym (b .read-log .ensures) ∙ ap logReading (c .before .before .k .given .1) in
-    let bs = b .before .before .before .before .args .log .now in
-    let refused = refused-number (logFormat today) (λ a. Unit) (lawful today sane-today) bs (numberOf (c .before .before .k .given .0 .0)) taken in
-    rw (eq-eqb _ _ (b .before .if1 .left), taken, refused, c .number3 .ensures)
+    let start = c .before .before .before .before .before .before .before .before .args in
+    let refused = sym (b .read-log .ensures) ∙ ap logReading (c .before .before .k .given .1) in
+    rw (c .number3 .ensures) (sym (read-refused (logFormat today) (lawful today sane-today) (start .log .now) (start .fields .now) _ (b .before .if1 .left) refused))
 
 pub mileage-read-log-spec : {M : Type 1} → statement M
 unfolding readLog readLogCall

@@ -1,14 +1,13 @@
 use mathlib.Core.Path.{sym, ap, _∙_}
-use borrow.Author.Tests.{eq-eqb, ne-eqb}
+use borrow.Author.Needs.{needs}
+use borrow.Author.Tests.{ne-eqb}
 use Rattle.tally.specs.Limits.{today}
-use Rattle.tally.specs.Refusal.{numberOf}
 use Rattle.tally.proofs.Bounds.{sane-today}
 use Rattle.codec.specs.Formats.{wrote}
 use Rattle.codec.specs.Messages.{messageFormat, messageReading, readMessage}
-use Rattle.codec.proofs.RoundTrips.{refused-number}
 use Rattle.codec.proofs.MessageFormat.{lawful}
 use Rattle.mileage.specs.Fields.{readMessageCall}
-use borrow.Author.Needs.{needs}
+use Rattle.mileage.proofs.Calls.{read-accepted, read-refused}
 use Rattle.mileage.proofs.mileage_read_message.Statement.{statement}
 use Rattle.mileage.proofs.mileage_read_message.Tie as tie
 
@@ -16,17 +15,19 @@ returns-2 : tie.Need-returns-2
 unfolding readMessage readMessageCall
 returns-2 c =
     let b = c .before .before .before .before .before .before in
-    let taken = sym (b .before .before .read-message .ensures) ∙ ap messageReading (b .m .given .1) in
-    rw (eq-eqb _ _ (b .before .before .before .if1 .left), taken, c .number2 .ensures) (ap (wrote 0) (c .before .before .before .put-message .ensures))
+    let start = c .before .before .before .before .before .before .before .before .before .before .before .before .args in
+    let accepted = sym (b .before .before .read-message .ensures) ∙ ap messageReading (b .m .given .1) in
+    rw (c .number2 .ensures)
+    (ap (wrote 0) (c .before .before .before .put-message .ensures)
+    ∙ sym (read-accepted (messageFormat today) (lawful today sane-today) (start .message .now) (start .fields .now) _ (b .before .before .before .if1 .left) accepted))
 
 returns-3 : tie.Need-returns-3
 unfolding readMessage readMessageCall
 returns-3 c =
     let b = c .before .before .before .before in
-    let taken = sym (b .read-message .ensures) ∙ ap messageReading (c .before .before .k .given .1) in
-    let bs = b .before .before .before .before .args .message .now in
-    let refused = refused-number (messageFormat today) (λ a. Unit) (lawful today sane-today) bs (numberOf (c .before .before .k .given .0 .0)) taken in
-    rw (eq-eqb _ _ (b .before .if1 .left), taken, refused, c .number3 .ensures)
+    let start = c .before .before .before .before .before .before .before .before .args in
+    let refused = sym (b .read-message .ensures) ∙ ap messageReading (c .before .before .k .given .1) in
+    rw (c .number3 .ensures) (sym (read-refused (messageFormat today) (lawful today sane-today) (start .message .now) (start .fields .now) _ (b .before .if1 .left) refused))
 
 pub mileage-read-message-spec : {M : Type 1} → statement M
 unfolding readMessage readMessageCall

@@ -5,7 +5,7 @@ use Rattle.tally.specs.Limits.{today}
 use Rattle.tally.proofs.Bounds.{sane-today}
 use Rattle.codec.specs.Logs.{logOf, logFormat, writeLog}
 use Rattle.codec.proofs.LogFormat.{lawful}
-use Rattle.mileage.specs.Fields.{logNarrow, writeLogCall}
+use Rattle.mileage.specs.Fields.{logHead, logNarrow, writeLogCall}
 use Rattle.mileage.proofs.Narrow.{log-small, too-large}
 use Rattle.mileage.proofs.Calls.{put-checked}
 use borrow.Author.Needs.{needs}
@@ -17,7 +17,7 @@ unfolding logNarrow writeLog writeLogCall
 returns-3 c =
     let fs = c .before .before .before .before .before .before .before .args .fields .now in
     let wide = sym (c .before .before .log-narrow .ensures) ∙ not-true _ (c .before .if3 .taken) in
-    let refused = too-large (logFormat today) (lawful today sane-today) fs 5 (c .before .before .before .before .if1 .left) wide in
+    let refused = too-large (logFormat today) (lawful today sane-today) fs logHead (c .before .before .before .before .if1 .left) wide in
     rw (eq-eqb _ _ (c .before .before .before .before .if1 .left), eq-eqb _ _ (c .before .before .before .if2 .left), refused, c .number3 .ensures)
 
 returns-4 : tie.Need-returns-4
@@ -50,7 +50,7 @@ mileage-write-log-spec =
     (λ c κs. search needs)
     returns-3
     (λ c. search needs)
-    (λ c. let small = log-small (c .before .before .before .before .before .before .before .args .fields .now) (sym (c .before .before .log-narrow .ensures) ∙ not-false _ (c .before .if3 .left)) in omega arith)
+    (λ c. let small = log-small today (c .before .before .before .before .before .before .before .args .fields .now) (sym (c .before .before .log-narrow .ensures) ∙ not-false _ (c .before .if3 .left)) in omega arith)
     (λ c κs. search needs)
     (λ c. search needs)
     (λ c κs. (search needs, sym (c .before .before .before .before .before .before .log-narrow .ensures) ∙ not-false _ (c .before .before .before .before .before .if3 .left)))

@@ -5,7 +5,7 @@ use Rattle.tally.specs.Limits.{today}
 use Rattle.tally.proofs.Bounds.{sane-today}
 use Rattle.codec.specs.Messages.{messageFormat}
 use Rattle.codec.proofs.MessageFormat.{lawful}
-use Rattle.mileage.specs.Fields.{messageNarrow, writeMessageCall}
+use Rattle.mileage.specs.Fields.{messageHead, messageNarrow, writeMessageCall}
 use Rattle.mileage.proofs.Narrow.{message-small, too-large}
 use borrow.Author.Needs.{needs}
 use Rattle.mileage.proofs.mileage_write_message.Statement.{statement}
@@ -16,7 +16,7 @@ unfolding messageNarrow writeMessageCall
 returns-3 c =
     let fs = c .before .before .before .before .before .before .before .before .before .before .args .fields .now in
     let wide = sym (c .before .before .before .before .before .message-narrow .ensures) ∙ not-true _ (c .before .before .before .before .if3 .taken) in
-    let refused = too-large (messageFormat today) (lawful today sane-today) fs 7 (c .before .before .before .before .before .before .before .if1 .left) wide in
+    let refused = too-large (messageFormat today) (lawful today sane-today) fs messageHead (c .before .before .before .before .before .before .before .if1 .left) wide in
     rw (eq-eqb _ _ (c .before .before .before .before .before .before .before .if1 .left), eq-eqb _ _ (c .before .before .before .before .before .before .if2 .left), refused) (c .before .before .refuse3 .ensures)
 
 returns-4 : tie.Need-returns-4
@@ -41,10 +41,10 @@ mileage-write-message-spec =
     (λ c. search needs)
     returns-3
     (λ c. search needs)
-    (λ c. let small = message-small (c .before .before .before .before .before .before .before .args .fields .now) (sym (c .before .before .message-narrow .ensures) ∙ not-false _ (c .before .if3 .left)) in omega arith)
+    (λ c. let small = message-small today (c .before .before .before .before .before .before .before .args .fields .now) (sym (c .before .before .message-narrow .ensures) ∙ not-false _ (c .before .if3 .left)) in omega arith)
     (λ c κs. search needs)
     (λ c. search needs)
-    (λ c. let small = message-small (c .before .before .before .before .before .before .before .before .before .args .fields .now) (sym (c .before .before .before .before .message-narrow .ensures) ∙ not-false _ (c .before .before .before .if3 .left)) in omega arith)
+    (λ c. let small = message-small today (c .before .before .before .before .before .before .before .before .before .args .fields .now) (sym (c .before .before .before .before .message-narrow .ensures) ∙ not-false _ (c .before .before .before .if3 .left)) in omega arith)
     (λ c κs. search needs)
     (λ c κs. (search needs, (sym (c .before .before .before .before .before .before .message-narrow .ensures) ∙ not-false _ (c .before .before .before .before .before .if3 .left), search needs)))
     (λ c. search needs)

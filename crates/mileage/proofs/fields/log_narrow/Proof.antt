@@ -1,4 +1,3 @@
-use mathlib.Core.Path.{refl}
 use Rattle.mileage.specs.Fields.{logNarrow}
 use borrow.Author.Needs.{needs}
 use Rattle.mileage.proofs.fields.log_narrow.Statement.{statement}
@@ -14,4 +13,5 @@ log-narrow-spec =
     (λ c. search needs)
     (λ c. search needs)
     (λ c. search needs)
-    (λ c. refl))
+    (λ c κs. search needs)
+    (λ c. rw (c .round-narrow .ensures)))

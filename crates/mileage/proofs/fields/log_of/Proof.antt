@@ -1,3 +1,4 @@
+use Rattle.tally.specs.Limits.{today}
 use native.Mathlib.Omega.{arith}
 use Rattle.mileage.proofs.Narrow.{log-small}
 use borrow.Author.Needs.{needs}
@@ -9,13 +10,13 @@ log-of-spec =
     tie.close
     (tie.spec
     (λ c. search needs)
-    (λ c. let small = log-small _ (c .before .before .pre .1) in omega arith)
+    (λ c. let small = log-small today _ (c .before .before .pre .1) in omega arith)
     (λ c. search needs)
-    (λ c. let small = log-small _ (c .before .before .before .pre .1) in omega arith)
+    (λ c. let small = log-small today _ (c .before .before .before .pre .1) in omega arith)
     (λ c. search needs)
-    (λ c. let small = log-small _ (c .before .before .before .before .pre .1) in omega arith)
+    (λ c. let small = log-small today _ (c .before .before .before .before .pre .1) in omega arith)
     (λ c. search needs)
-    (λ c. let small = log-small _ (c .before .before .before .before .before .pre .1) in omega arith)
+    (λ c. let small = log-small today _ (c .before .before .before .before .before .pre .1) in omega arith)
     (λ c. search needs)
     (λ c κs. search needs)
     (λ c. search needs)

@@ -1,4 +1,3 @@
-use mathlib.Core.Path.{refl}
 use Rattle.mileage.specs.Fields.{messageNarrow}
 use borrow.Author.Needs.{needs}
 use Rattle.mileage.proofs.fields.message_narrow.Statement.{statement}
@@ -16,4 +15,5 @@ message-narrow-spec =
     (λ c. search needs)
     (λ c. search needs)
     (λ c. search needs)
-    (λ c. refl))
+    (λ c κs. search needs)
+    (λ c. rw (c .round-narrow .ensures)))

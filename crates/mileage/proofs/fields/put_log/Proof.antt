@@ -13,7 +13,7 @@ returns c =
       c .code-of3 .ensures,
       c .before .code-of2 .ensures,
       c .before .before .code-of .ensures,
-      c .before .before .before .wide162 .ensures,
+      c .before .before .before .wide-round .ensures,
       c .before .before .before .before .wide16 .ensures,
       c .before .before .before .before .before .wide83 .ensures,
       c .before .before .before .before .before .before .wide82 .ensures,

@@ -12,7 +12,7 @@ returns c =
     rw (
       c .code-of2 .ensures,
       c .before .code-of .ensures,
-      c .before .before .wide162 .ensures,
+      c .before .before .wide-round .ensures,
       c .before .before .before .wide16 .ensures,
       c .before .before .before .before .wide85 .ensures,
       c .before .before .before .before .before .wide84 .ensures,
