@@ -40,8 +40,8 @@ struct rule {
 #define REFUSED(no, ...) .number = no, .refused = {VALUES(__VA_ARGS__)}
 
 /* Values in and out of each range, its ends first. A sum is in range only if cut to one or two bytes. */
-#define NO_KIND 0, 'B', 'Z', 'f', 'c', 's', 'k', 255, 'F' + 256, 'C' + 256, 'S' + 65536, 'K' + 65536
-#define NO_ENGINE 0, 'A', 'C', 'Q', 'S', 'b', 'r', 255, 'B' + 256, 'R' + 65536
+#define NO_KIND 0, 'B', 'Z', 'f', 'c', 's', 'k', 255, 'F' + 65536, 'C' + 65536, 'S' + 65536, 'K' + 65536
+#define NO_ENGINE 0, 'A', 'C', 'Q', 'S', 'b', 'r', 255, 'B' + 65536, 'R' + 65536
 #define NO_N 2, 17, 0, 255, 3 + 256, 16 + 65536, BLANK
 #define NOT_BELOW_3 3, 254, 255, 2 + 256, 0 + 65536, BLANK
 #define NOT_BELOW_16 16, 254, 255, 15 + 256, 0 + 65536, BLANK
@@ -51,6 +51,7 @@ struct rule {
 #define NO_ROUND 10000, 65535, 0 + 65536, 9999 + 65536, BLANK
 #define MILEAGES 0, 9999999, 65535, 65536
 #define NO_MILEAGE 10000000, 2147483648, 4294967293
+#define NOT_412077 412076, 412078, 412077 + 65536, 412077 + 16777216, MILEAGES, NO_MILEAGE, SPLIT, BLANK
 
 /* Logs. Sets of fields and of rows, the first of each being 1. */
 enum { L_ENGINE = 1, L_N = 2, L_UNIT = 4, L_ENTRY = 8, L_ROUND = 16, L_PROPOSAL = 32, L_FIRST = 64, L_SECOND = 128 };
@@ -90,7 +91,7 @@ enum { ALL_3 = F_OR_C | S_B | S_R | S_SPLIT | K_B | K_R, ALL_16 = S_16 | K_16 };
 
 static const struct row message_rows[] = {
     {0, {'F', 'B', 3, 0, 255, 7, 0, 412077, 412077}, "46 42 03 00 ff 00 0007 0000 000649ad 000649ad"},
-    {0, {'F', 'R', 3, 1, 255, 7, 2, 9, 9}, "46 52 03 01 ff 00 0007 0002 00000009 00000009"},
+    {0, {'F', 'R', 3, 1, 255, 7, 2, 412077, 412077}, "46 52 03 01 ff 00 0007 0002 000649ad 000649ad"},
     {0, {'C', 'B', 3, 2, 255, 7, 0, 412077, 412077}, "43 42 03 02 ff 00 0007 0000 000649ad 000649ad"},
     {0, {'S', 'B', 3, 2, 255, 7, 0, 5, BLANK}, "53 42 03 02 ff 00 0007 0000 00000005 ffffffff"},
     {0, {'S', 'R', 3, 0, 255, 7, 2, 5, 9999999}, "53 52 03 00 ff 00 0007 0002 00000005 0098967f"},
@@ -122,8 +123,8 @@ static const struct rule message_rules[] = {
     {EVERY, ENTRY, ACCEPTED(ENTRIES), REFUSED(4, NO_ENTRY)},
     {EVERY, ROUND, ACCEPTED(ROUNDS), REFUSED(4, NO_ROUND)},
     {F_OR_C, ESTIMATE | PROPOSAL, ACCEPTED(MILEAGES), REFUSED(4, NO_MILEAGE, SPLIT, BLANK)},
-    {F_OR_C, ESTIMATE, REFUSED(4, MILEAGES, NO_MILEAGE, SPLIT, BLANK)},
-    {F_OR_C, PROPOSAL, REFUSED(4, MILEAGES, NO_MILEAGE, SPLIT, BLANK)},
+    {F_OR_C, ESTIMATE, ACCEPTED(412077), REFUSED(4, NOT_412077)},
+    {F_OR_C, PROPOSAL, ACCEPTED(412077), REFUSED(4, NOT_412077)},
     {S, ESTIMATE | PROPOSAL, ACCEPTED(MILEAGES), REFUSED(4, NO_MILEAGE, SPLIT, BLANK)},
     {S_IN_B, ESTIMATE, ACCEPTED(MILEAGES, SPLIT), REFUSED(4, NO_MILEAGE, BLANK)},
     {S_R, ESTIMATE, ACCEPTED(MILEAGES), REFUSED(4, NO_MILEAGE, SPLIT, BLANK)},
@@ -296,7 +297,8 @@ static void must_give(const char *part, const struct format *format, enum way wa
     if (wanted->number == given.number && memcmp(wanted->bytes, given.bytes, sizeof given.bytes) == 0
         && memcmp(wanted->fields, given.fields, sizeof given.fields) == 0)
         return;
-    printf("entries: DIFFERENCE, %s: %s %s%s\n", part, way ? "write" : "read", format->name, who ? " of the reference" : "");
+    printf("entries: DIFFERENCE, %s: %s %s, %s\n",
+           part, way ? "write" : "read", format->name, who ? "reference" : "entry");
     show("before", before);
     show("wanted", wanted);
     show("given", &given);
@@ -380,15 +382,16 @@ static void check_by_hand(const struct format *format)
     }
 }
 
-/* Puts another number into one of the fields. */
+/* Puts another number into one field or two. */
 static void damage(uint32_t *fields, uint32_t count)
 {
-    uint32_t *field = &fields[below(count)], number = *field, other = fields[below(count)];
+    uint32_t one = below(count), two = below(4) ? one : below(count), number = fields[one];
     uint32_t flipped = number ^ UINT32_C(1) << below(32);
 
-    *field = one_of(VALUES(number + 1, number - 1, number + 256, number + 65536, flipped, other, between(0, 9999999),
-                           one_of(VALUES(NO_KIND)), one_of(VALUES(NO_ENGINE, 'R')), one_of(VALUES(NO_N, NOT_BELOW_16)),
-                           one_of(VALUES(NO_ENTRY, NO_ROUND)), one_of(VALUES(NO_MILEAGE, SPLIT, BLANK))));
+    fields[one] = fields[two] = one_of(VALUES(
+        number, number + 1, number - 1, number + 256, number + 65536, flipped, between(0, 9999999),
+        one_of(VALUES(NO_KIND)), one_of(VALUES(NO_ENGINE, 'R')), one_of(VALUES(NO_N, NOT_BELOW_16)),
+        one_of(VALUES(NO_ENTRY, NO_ROUND)), one_of(VALUES(NO_MILEAGE, SPLIT, BLANK))));
 }
 
 /* Random: well-formed contents, most of them damaged. Says whether they were accepted; if so, they go back as well. */
@@ -401,6 +404,8 @@ static bool check_random(const struct format *format, enum way way)
     format->well_formed(fields);
     for (uint32_t hits = one_of(VALUES(0, 0, 0, 1, 1, 2, 20)); hits > 0; hits--)
         damage(fields, (uint32_t)format->fields_len);
+    if (below(64) == 0)
+        memset(fields, 0, sizeof fields);
     pack(format, fields, bytes);
     if (below(4) == 0)
         bytes[below((uint32_t)format->bytes_len)] = (uint8_t)below(256);

@@ -23,7 +23,8 @@ use Rattle.contents.proofs.Facts.{Known, TallyFacts, image-facts, known-place}
 use Rattle.codec.specs.Codes.{engineOf}
 use Rattle.codec.specs.Formats.{reading, withZero}
 use Rattle.codec.specs.Images.{cellOf, cellCode, tallyWidths, tallyNumbers, tallyOf, tallyFields}
-use Rattle.codec.specs.Images.{TypedImage, imageWidths, imageNumbers, imageOf, withTallies, parseImage, imageRow, imageFormat, imageBytes, readImage, writeImage}
+use Rattle.codec.specs.Images.{TypedImage, imageWidths, imageNumbers, imageOf, withTallies}
+use Rattle.codec.specs.Images.{parseImage, imageRow, imageFormat, imageBytes, readImage, writeImage}
 use Rattle.codec.specs.Logs.{logWidths, logZero, logNumbers}
 use Rattle.codec.specs.Numbers.{Bytes, total, packInto}
 use Rattle.codec.specs.RoundTrip.{RoundTrip}
@@ -37,7 +38,8 @@ length-tally : (t : Tally) → length (t .cells) ≡ senders → length (tallyNu
 length-tally t e = ap suc (length-map (t .cells) cellCode ∙ e)
 
 -- a log and two tallies stored one after the other, from the front to the end, are an image's bytes
-pub image-stored : (bs : List ℕ) (i : Image) → length (i .checks .cells) ≡ senders → length (i .seconds .cells) ≡ senders → length bs ≡ imageSize today
+pub image-stored : (bs : List ℕ) (i : Image) → length (i .checks .cells) ≡ senders → length (i .seconds .cells) ≡ senders
+    → length bs ≡ imageSize today
     → packInto
     (packInto (packInto bs 0 (logWidths today) (withZero logZero (logNumbers (imageLog i)))) (logSize today) tallyWidths (tallyNumbers (i .checks)))
     (logSize today + total tallyWidths) tallyWidths (tallyNumbers (i .seconds))
@@ -48,7 +50,8 @@ image-stored bs i c s size =
     let rest = tallyNumbers (i .checks) ++ tallyNumbers (i .seconds) in
     sym
     (packInto-append (logWidths today) (tallyWidths ++ tallyWidths) row rest bs 0 refl
-    ∙ packInto-append tallyWidths tallyWidths (tallyNumbers (i .checks)) (tallyNumbers (i .seconds)) (packInto bs 0 (logWidths today) row) (logSize today) (length-tally (i .checks) c))
+    ∙ packInto-append tallyWidths tallyWidths (tallyNumbers (i .checks)) (tallyNumbers (i .seconds)) (packInto bs 0 (logWidths today) row) (logSize today)
+    (length-tally (i .checks) c))
     ∙ packInto-eq (imageWidths today) (row ++ rest) bs 0 (simp (length-append, length-tally (i .checks) c, length-tally (i .seconds) s)) (sym size)
 
 -- any numbers are some cells'
@@ -60,7 +63,8 @@ numbers-tally : (vs : List ℕ) → 0 < length vs → tallyNumbers (tallyOf vs) 
 numbers-tally [] h = absurd (omega arith)
 numbers-tally (v ∷ vs) h = ap (_∷_ v) (codes-cells vs)
 
-numbers-image : (e : Engine) (vs : List ℕ) → length vs ≡ logFields + tallyFields + tallyFields → engineOf (getD vs 0 0) ≡ Is e → imageNumbers (imageOf e vs) ≡ vs
+numbers-image : (e : Engine) (vs : List ℕ) → length vs ≡ logFields + tallyFields + tallyFields → engineOf (getD vs 0 0) ≡ Is e → imageNumbers
+    (imageOf e vs) ≡ vs
 numbers-image e vs len p =
     let rest = drop logFields vs in
     let long : length rest ≡ tallyFields + tallyFields = simp length-drop (omega arith) in
@@ -68,7 +72,8 @@ numbers-image e vs len p =
     let checks : length (take tallyFields rest) ≡ tallyFields = length-take-le tallyFields rest (omega arith) in
     let seconds : length (drop tallyFields rest) ≡ tallyFields = simp length-drop (omega arith) in
     ap₂ _++_ (log.numbers-of e (take logFields vs) front (ap engineOf (getD-take logFields vs 0 0 (omega arith)) ∙ p))
-    (ap₂ _++_ (numbers-tally (take tallyFields rest) (omega arith)) (numbers-tally (drop tallyFields rest) (omega arith)) ∙ take-append-drop tallyFields rest)
+    (ap₂ _++_ (numbers-tally (take tallyFields rest) (omega arith)) (numbers-tally (drop tallyFields rest) (omega arith))
+    ∙ take-append-drop tallyFields rest)
     ∙ take-append-drop logFields vs
 
 module _ (l : Limits) (sane : Sane l) where

@@ -66,7 +66,8 @@ kind-fits Skip = omega arith
 pub letter-kind : (x : ℕ) (k : Kind) → kindOf x ≡ KindRead.Is k → kindLetter k ≡ x
 letter-kind x k h = go (eqb x (kindLetter First)) (eqb x (kindLetter Check)) (eqb x (kindLetter Second)) (eqb x (kindLetter Skip)) refl refl refl refl h
   where
-    go : (t u v w : Bool) → eqb x (kindLetter First) ≡ t → eqb x (kindLetter Check) ≡ u → eqb x (kindLetter Second) ≡ v → eqb x (kindLetter Skip) ≡ w
+    go : (t u v w : Bool) → eqb x (kindLetter First) ≡ t → eqb x (kindLetter Check) ≡ u → eqb x (kindLetter Second) ≡ v → eqb x
+        (kindLetter Skip) ≡ w
         → cond t (KindRead.Is First) (cond u (KindRead.Is Check) (cond v (KindRead.Is Second) (cond w (KindRead.Is Skip) KindRead.Unknown))) ≡ KindRead.Is k
         → kindLetter k ≡ x
     go true u v w p q r s e = let i : First ≡ k = cc in rw (← i) (sym (eqb-true _ _ p))

@@ -18,13 +18,15 @@ use Rattle.contents.proofs.Facts.{message-facts}
 use Rattle.tally.proofs.Never.{never}
 use Rattle.codec.specs.Codes.{engineOf, kindOf}
 use Rattle.codec.specs.Formats.{withZero}
-use Rattle.codec.specs.Messages.{messageWidths, messageZero, messageNumbers, messageOf, lettersRead, parseMessage, cleared, messageFormat, readMessage, writeMessage}
+use Rattle.codec.specs.Messages.{messageWidths, messageZero, messageNumbers, messageOf, lettersRead}
+use Rattle.codec.specs.Messages.{parseMessage, cleared, messageFormat, readMessage, writeMessage}
 use Rattle.codec.specs.RoundTrip.{RoundTrip}
 use Rattle.codec.specs.declared.EngineRead.{EngineRead}
 use Rattle.codec.specs.declared.EngineRead.the-variants.{Is, Unknown}
 use Rattle.codec.specs.declared.KindRead.{KindRead}
 use Rattle.codec.specs.declared.KindRead.the-variants.{Is as KindIs, Unknown as KindUnknown}
-use Rattle.codec.proofs.Letters.{engine-letter, letter-fits, letter-engine, kind-letter, kind-fits, letter-kind, code-estimate, estimate-code, code-fits, listed}
+use Rattle.codec.proofs.Letters.{engine-letter, letter-fits, letter-engine, kind-letter, kind-fits}
+use Rattle.codec.proofs.Letters.{letter-kind, code-estimate, estimate-code, code-fits, listed}
 use Rattle.codec.proofs.RoundTrips.{Lawful, round-trip}
 use Rattle.codec.proofs.Rows.{Fit}
 

@@ -9,7 +9,8 @@ use lib.Dec.{eqb}
 use lib.ListN.{length, getD, take, drop, length-append, length-drop, take-append-drop}
 use lib.Seq.{take-at, drop-at, getD-at, split-at, append-snoc, length-take-le}
 use borrow.Author.Tests.{ne-eqb, eqb-true}
-use Rattle.codec.specs.Formats.{Reading, reading, Wrote, wrote, Format, withZero, without, rowNumbers, zeroByte, checked, fromNumbers, readBytes, toBytes, writeBytes}
+use Rattle.codec.specs.Formats.{Reading, reading, Wrote, wrote, Format, withZero, without}
+use Rattle.codec.specs.Formats.{rowNumbers, zeroByte, checked, fromNumbers, readBytes, toBytes, writeBytes}
 use Rattle.codec.specs.Numbers.{Bytes, total, unpack, pack}
 use Rattle.codec.specs.RoundTrip.{RoundTrip}
 use Rattle.tally.specs.Refusal.{numberOf}
@@ -72,7 +73,8 @@ module _ {A : Type 0} (f : Format A) (Typed : A → Type 0) (law : Lawful f Type
       go none p e = absurd (law .refuses (ap (λ (r : Reading A). r .number) e))
       go (some b) p e = by (f .ok b) refl e
         where
-          by : (t : Bool) → f .ok b ≡ t → cond t (reading 0 b) (reading (f .malformed) (f .nothing)) ≡ reading 0 a → (f .ok a ≡ true) × (f .parse vs ≡ some a)
+          by : (t : Bool) → f .ok b ≡ t → cond t (reading 0 b) (reading (f .malformed) (f .nothing)) ≡ reading 0 a → (f .ok a ≡ true) ×
+              (f .parse vs ≡ some a)
           by true ok e = let same : b ≡ a = ap (λ (r : Reading A). r .contents) e in rw (← same) (ok, p)
           by false ok e = absurd (law .refuses (ap (λ (r : Reading A). r .number) e))
 

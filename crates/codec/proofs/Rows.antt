@@ -86,7 +86,9 @@ packInto-eq (w ∷ ws) (v ∷ vs) bs o n e =
     ∙ rw front (append-assoc (take o bs) b (pack ws vs))
 
 -- two rows stored one after the other are one row
-pub packInto-append : (ws ws′ vs vs′ bs : List ℕ) (o : ℕ) → length vs ≡ length ws → packInto bs o (ws ++ ws′) (vs ++ vs′) ≡ packInto (packInto bs o ws vs) (o + total ws) ws′ vs′
+pub packInto-append : (ws ws′ vs vs′ bs : List ℕ) (o : ℕ) → length vs ≡ length ws → packInto bs o (ws ++ ws′) (vs ++ vs′) ≡ packInto
+    (packInto bs o ws vs)
+    (o + total ws) ws′ vs′
 packInto-append [] ws′ [] vs′ bs o e = rw add-zero
 packInto-append [] ws′ (v ∷ vs) vs′ bs o e = let z : ⊥ = omega arith in absurd z
 packInto-append (w ∷ ws) ws′ [] vs′ bs o e = let z : ⊥ = omega arith in absurd z

@@ -179,7 +179,8 @@ pub record PlaceFacts (l : Limits) (split : Bool) (n s : ℕ) (marked : Bool) (e
   pub unmarked : unmarkedOk marked e ≡ true
   pub vote : markedOk l split marked e ≡ true
 
-place-facts : (l : Limits) (split : Bool) (n s : ℕ) (marked : Bool) (e : Estimate) → placeOk l split n s marked e ≡ true → PlaceFacts l split n s marked e
+place-facts : (l : Limits) (split : Bool) (n s : ℕ) (marked : Bool) (e : Estimate) → placeOk l split n s marked e ≡ true
+    → PlaceFacts l split n s marked e
 unfolding placeOk
 place-facts l split n s marked e h =
     let a = both-true (belowOk n s marked && unmarkedOk marked e) (markedOk l split marked e) h in

@@ -50,7 +50,13 @@ same-settings a b h =
     let q = both-true (sameEngine (a .engine) (b .engine) && eqb (a .n) (b .n)) (eqb (a .unit) (b .unit)) (p .0) in
     let r = both-true (sameEngine (a .engine) (b .engine)) (eqb (a .n) (b .n)) (q .0) in
     let fields : _≡_ {A = Settings} (settings (a .engine) (a .n) (a .unit) (a .entry)) (settings (b .engine) (b .n) (b .unit) (b .entry)) =
-    cc (same-engine (a .engine) (b .engine) (r .0), eqb-true (a .n) (b .n) (r .1), eqb-true (a .unit) (b .unit) (q .1), eqb-true (a .entry) (b .entry) (p .1)) in
+    cc (
+      same-engine (a .engine) (b .engine) (r .0),
+      eqb-true (a .n) (b .n) (r .1),
+      eqb-true (a .unit) (b .unit) (q .1),
+      eqb-true (a .entry) (b .entry)
+          (p .1),
+    ) in
     fields
 
 pub settings-same : (a : Settings) → sameSettings a a ≡ true

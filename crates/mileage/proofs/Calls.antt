@@ -35,7 +35,8 @@ module _ {A : Type 0} (f : Format A) (law : Lawful f (λ a. Unit)) where
   pub put-checked : (a : A) (kept bs : List ℕ) → length bs ≡ f .size → putChecked f (checked f (some a)) kept ≡ writeBytes f a kept bs
   put-checked a kept bs len = rw (eq-eqb (length bs) (f .size) len) (go (f .ok a))
     where
-      go : (t : Bool) → putChecked f (cond t (reading 0 a) (reading (f .malformed) (f .nothing))) kept ≡ cond t (wrote 0 (toBytes f a)) (wrote (f .malformed) kept)
+      go : (t : Bool) → putChecked f (cond t (reading 0 a) (reading (f .malformed) (f .nothing))) kept ≡ cond t (wrote 0 (toBytes f a))
+          (wrote (f .malformed) kept)
       go true = refl
       go false = rw (ne-eqb (f .malformed) 0 (law .refuses))
 
@@ -71,7 +72,8 @@ module _ {A : Type 0} (f : Format A) (law : Lawful f (λ a. Unit)) where
           r : Reading A
           r = fromNumbers f fs
 
-          go : (t : Bool) → (eqb (length fs) (f .fields) && eqb (length bs) (f .size)) ≡ t → cond t (putChecked f r (kept bs)) (wrote (numberOf Length) (kept bs)) .number ≡ 0
+          go : (t : Bool) → (eqb (length fs) (f .fields) && eqb (length bs) (f .size)) ≡ t → cond t (putChecked f r (kept bs))
+              (wrote (numberOf Length) (kept bs)) .number ≡ 0
               → readCall f (cond t (putChecked f r (kept bs)) (wrote (numberOf Length) (kept bs)) .out) out ≡ wrote 0 fs
           go false l e = absurd (omega arith)
           go true l e = by (eqb (r .number) 0) refl e

@@ -80,7 +80,8 @@ fn refuse(why: Refusal, message: &mut [u8]) -> u32
 
 // Writes a message whose letters have been looked up.
 fn write_known(kind: KindRead, engine: EngineRead, fields: &[u32], message: &mut [u8]) -> u32
-    requires { ⌜ (length (now fields) ≡ messageFields) × ((messageNarrow today (now fields) ≡ true) × (length (now message) ≡ messageSize today)) ⌝ }
+    requires { ⌜ (length (now fields) ≡ messageFields) × (messageNarrow today (now fields) ≡ true) ⌝ }
+    requires { ⌜ length (now message) ≡ messageSize today ⌝ }
     ensures { λ r. ⌜ wrote r (now (message .exit)) ≡ writeKnown today kind engine (now (fields .entry)) (now (message .entry)) ⌝ }
 {
     match kind {

@@ -101,7 +101,8 @@ overlap (suc k) P Q h = go (λ h. overlap k P Q h) (P k) (Q k) refl refl h
     up : Both k P Q → Both (suc k) P Q
     up b = record { at = b .at; below = omega arith; left = b .left; right = b .right }
 
-    go : (k < count k P + count k Q → Both k P Q) → (a b : Bool) → P k ≡ a → Q k ≡ b → suc k < bump a (count k P) + bump b (count k Q) → Both (suc k) P Q
+    go : (k < count k P + count k Q → Both k P Q) → (a b : Bool) → P k ≡ a → Q k ≡ b → suc k < bump a (count k P) + bump b (count k Q) → Both
+        (suc k) P Q
     go ih true true p q h = record { at = k; below = omega arith; left = p; right = q }
     go ih true false p q h = up (ih (omega arith))
     go ih false true p q h = up (ih (omega arith))

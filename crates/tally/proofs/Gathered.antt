@@ -33,7 +33,8 @@ unfolding allHold holders
 all-counted v [] = refl
 all-counted v (e ∷ es) = go (holds v e) (all-counted v es)
   where
-    go : (b : Bool) → allHold v es ≡ eqb (passing (holds v) es) (length es) → (b && allHold v es) ≡ eqb (bump b (passing (holds v) es)) (suc (length es))
+    go : (b : Bool) → allHold v es ≡ eqb (passing (holds v) es) (length es) → (b && allHold v es) ≡ eqb (bump b (passing (holds v) es))
+        (suc (length es))
     go true h = h ∙ sym (eqb·suc-suc (passing (holds v) es) (length es))
     go false h = sym (ne-eqb (passing (holds v) es) (suc (length es)) (λ e. omega (arith, passing-le (holds v) es)))
 
@@ -63,7 +64,8 @@ unfolding firstPassing
 first-none P [] h = refl
 first-none P (e ∷ es) h = go (first-none P es) (P e) refl h
   where
-    go : (P (firstPassing P es) ≡ false → passing P es ≡ 0) → (b : Bool) → P e ≡ b → P (cond b e (firstPassing P es)) ≡ false → bump b (passing P es) ≡ 0
+    go : (P (firstPassing P es) ≡ false → passing P es ≡ 0) → (b : Bool) → P e ≡ b → P (cond b e (firstPassing P es)) ≡ false → bump b
+        (passing P es) ≡ 0
     go ih true p h = never cc
     go ih false p h = ih h
 
@@ -91,7 +93,8 @@ unfolding firstPassing
 first-passes P [] v h = never cc
 first-passes P (e ∷ es) v h = go (first-passes P es v) (P e) refl h
   where
-    go : (firstPassing P es ≡ Mileage v → P (Mileage v) ≡ true) → (b : Bool) → P e ≡ b → cond b e (firstPassing P es) ≡ Mileage v → P (Mileage v) ≡ true
+    go : (firstPassing P es ≡ Mileage v → P (Mileage v) ≡ true) → (b : Bool) → P e ≡ b → cond b e (firstPassing P es) ≡ Mileage v → P
+        (Mileage v) ≡ true
     go ih true p h = rw h at p
     go ih false p h = ih h
 

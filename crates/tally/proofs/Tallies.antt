@@ -47,7 +47,9 @@ module _ (P : Estimate → Bool) (blank : P Blank ≡ false) (t : Tally) (s : �
       let e : senders - s ≡ suc (senders - (s + 1)) = omega arith in
       rw e (rw (add-one s) (go (isMarked (t .marks) s) (gatheredFrom t (suc s) (senders - suc s))))
     where
-      go : (b : Bool) (es : List Estimate) → firstPassing P (cond b (placed t s ∷ es) es) ≡ cond (P (cond b (placed t s) Blank)) (cond b (placed t s) Blank) (firstPassing P es)
+      go : (b : Bool) (es : List Estimate) → firstPassing P (cond b (placed t s ∷ es) es) ≡ cond (P (cond b (placed t s) Blank))
+          (cond b (placed t s) Blank)
+          (firstPassing P es)
       go true es = refl
       go false es = rw blank
 

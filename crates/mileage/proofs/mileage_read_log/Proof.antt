@@ -19,7 +19,8 @@ returns-2 c =
     let accepted = sym (b .before .before .read-log .ensures) ∙ ap logReading (b .l .given .1) in
     rw (c .number2 .ensures)
     (ap (wrote 0) (c .before .before .before .put-log .ensures)
-    ∙ sym (read-accepted (logFormat today) (lawful today sane-today) (start .log .now) (start .fields .now) _ (b .before .before .before .if1 .left) accepted))
+    ∙ sym (read-accepted (logFormat today) (lawful today sane-today) (start .log .now) (start .fields .now) _
+    (b .before .before .before .if1 .left) accepted))
 
 returns-3 : tie.Need-returns-3
 unfolding readLog readLogCall
@@ -27,7 +28,8 @@ returns-3 c =
     let b = c .before .before .before .before in
     let start = c .before .before .before .before .before .before .before .before .args in
     let refused = sym (b .read-log .ensures) ∙ ap logReading (c .before .before .k .given .1) in
-    rw (c .number3 .ensures) (sym (read-refused (logFormat today) (lawful today sane-today) (start .log .now) (start .fields .now) _ (b .before .if1 .left) refused))
+    rw (c .number3 .ensures) (sym (read-refused (logFormat today) (lawful today sane-today) (start .log .now) (start .fields .now) _
+    (b .before .if1 .left) refused))
 
 pub mileage-read-log-spec : {M : Type 1} → statement M
 unfolding readLog readLogCall

@@ -19,7 +19,8 @@ returns-2 c =
     let accepted = sym (b .before .before .read-message .ensures) ∙ ap messageReading (b .m .given .1) in
     rw (c .number2 .ensures)
     (ap (wrote 0) (c .before .before .before .put-message .ensures)
-    ∙ sym (read-accepted (messageFormat today) (lawful today sane-today) (start .message .now) (start .fields .now) _ (b .before .before .before .if1 .left) accepted))
+    ∙ sym (read-accepted (messageFormat today) (lawful today sane-today) (start .message .now) (start .fields .now) _
+    (b .before .before .before .if1 .left) accepted))
 
 returns-3 : tie.Need-returns-3
 unfolding readMessage readMessageCall
@@ -27,7 +28,8 @@ returns-3 c =
     let b = c .before .before .before .before in
     let start = c .before .before .before .before .before .before .before .before .args in
     let refused = sym (b .read-message .ensures) ∙ ap messageReading (c .before .before .k .given .1) in
-    rw (c .number3 .ensures) (sym (read-refused (messageFormat today) (lawful today sane-today) (start .message .now) (start .fields .now) _ (b .before .if1 .left) refused))
+    rw (c .number3 .ensures) (sym (read-refused (messageFormat today) (lawful today sane-today) (start .message .now) (start .fields .now) _
+    (b .before .if1 .left) refused))
 
 pub mileage-read-message-spec : {M : Type 1} → statement M
 unfolding readMessage readMessageCall

@@ -24,18 +24,32 @@ returns-4 : tie.Need-returns-4
 unfolding logNarrow writeLog writeLogCall
 returns-4 c =
     let e = c .before .before .before .before .before .before .before .e .given in
-    let start = c .before .before .before .before .before .before .before .before .before .before .before .before .before .before .before .before .before .args in
-    let letter = sym (c .before .before .before .before .before .before .before .before .before .engine-of .ensures) ∙ e .1 in
-    rw (eq-eqb _ _ (c .before .before .before .before .before .before .before .before .before .before .before .before .before .before .if1 .left), eq-eqb _ _ (c .before .before .before .before .before .before .before .before .before .before .before .before .before .if2 .left), letter, c .number4 .ensures)
+    let b = c .before .before .before .before .before .before .before .before .before in
+    let start = b .before .before .before .before .before .before .before .before .args in
+    let letter = sym (b .engine-of .ensures) ∙ e .1 in
+    rw (
+      eq-eqb _ _ (b .before .before .before .before .before .if1 .left),
+      eq-eqb _ _
+          (b .before .before .before .before .if2 .left),
+      letter,
+      c .number4 .ensures,
+    )
     (c .before .before .before .write-log .ensures
     ∙ ap (λ r. writeLog today r (start .log .now)) (c .before .before .before .before .before .log-of .ensures)
-    ∙ sym (put-checked (logFormat today) (lawful today sane-today) (logOf (e .0 .0) (start .fields .now)) (start .log .now) (start .log .now) (c .before .before .before .before .before .before .before .before .before .before .before .before .before .if2 .left)))
+    ∙ sym (put-checked (logFormat today) (lawful today sane-today) (logOf (e .0 .0) (start .fields .now)) (start .log .now) (start .log .now)
+    (b .before .before .before .before .if2 .left)))
 
 returns-5 : tie.Need-returns-5
 unfolding logNarrow writeLog writeLogCall
 returns-5 c =
     let letter = sym (c .before .before .before .engine-of .ensures) ∙ c .before .enum-told .given .1 in
-    rw (eq-eqb _ _ (c .before .before .before .before .before .before .before .before .if1 .left), eq-eqb _ _ (c .before .before .before .before .before .before .before .if2 .left), letter, c .number5 .ensures)
+    rw (
+      eq-eqb _ _ (c .before .before .before .before .before .before .before .before .if1 .left),
+      eq-eqb _ _
+          (c .before .before .before .before .before .before .before .if2 .left),
+      letter,
+      c .number5 .ensures,
+    )
 
 pub mileage-write-log-spec : {M : Type 1} → statement M
 unfolding logNarrow writeLog writeLogCall
@@ -50,10 +64,15 @@ mileage-write-log-spec =
     (λ c κs. search needs)
     returns-3
     (λ c. search needs)
-    (λ c. let small = log-small today (c .before .before .before .before .before .before .before .args .fields .now) (sym (c .before .before .log-narrow .ensures) ∙ not-false _ (c .before .if3 .left)) in omega arith)
+    (λ c. let small = log-small today (c .before .before .before .before .before .before .before .args .fields .now)
+    (sym (c .before .before .log-narrow .ensures) ∙ not-false _ (c .before .if3 .left)) in omega arith)
     (λ c κs. search needs)
     (λ c. search needs)
-    (λ c κs. (search needs, sym (c .before .before .before .before .before .before .log-narrow .ensures) ∙ not-false _ (c .before .before .before .before .before .if3 .left)))
+    (λ c κs. (
+      search needs,
+      sym (c .before .before .before .before .before .before .log-narrow .ensures) ∙ not-false _
+          (c .before .before .before .before .before .if3 .left),
+    ))
     (λ c κs. search needs)
     (λ c κs. search needs)
     (λ c. search needs)

@@ -18,11 +18,13 @@ returns c =
     rw (k .1, e .1, c .number .ensures)
     (c .before .before .before .write-message .ensures
     ∙ ap (λ m. writeMessage today m bs) (c .before .before .before .before .before .message-of .ensures)
-    ∙ sym (put-checked (messageFormat today) (lawful today sane-today) (messageOf (k .0 .0) (e .0 .0) (start .args .fields .now)) (cleared today bs) bs (start .pre .1 .1)))
+    ∙ sym (put-checked (messageFormat today) (lawful today sane-today) (messageOf (k .0 .0) (e .0 .0) (start .args .fields .now)) (cleared today bs) bs
+    (start .pre .1)))
 
 returns-2 : tie.Need-returns-2
 unfolding writeMessage
-returns-2 c = rw (c .before .before .before .before .before .before .before .kind .given .1, c .before .before .before .before .enum-told .given .1) (c .before .before .refuse .ensures)
+returns-2 c = rw (c .before .before .before .before .before .before .before .kind .given .1, c .before .before .before .before .enum-told .given .1)
+    (c .before .before .refuse .ensures)
 
 pub write-known-spec : {M : Type 1} → statement M
 unfolding writeMessage

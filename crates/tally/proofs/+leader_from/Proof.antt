@@ -36,7 +36,8 @@ unfolding firstPassing leads gatheredFrom
     let l = c .before in
     let P = leads (l .before .before .before .args .need) (gathered (l .before .before .before .args .t)) in
     let test = l .leads .ensures ∙ ap P (l .before .held .ensures) in
-    let step = rw (← test, c .if2 .taken) at (first-step P refl (l .before .before .before .args .t) (l .before .before .before .args .sender) (omega arith)) in
+    let step = rw (← test, c .if2 .taken) at (first-step P refl (l .before .before .before .args .t) (l .before .before .before .args .sender)
+    (omega arith)) in
     l .before .held .ensures ∙ sym step)
     (λ c. search needs)
     (λ c κs. (omega arith, omega arith))
@@ -44,5 +45,6 @@ unfolding firstPassing leads gatheredFrom
     let l = c .before .before in
     let P = leads (l .before .before .before .args .need) (gathered (l .before .before .before .args .t)) in
     let test = l .leads .ensures ∙ ap P (l .before .held .ensures) in
-    let step = rw (← test, c .before .if2 .left) at (first-step P refl (l .before .before .before .args .t) (l .before .before .before .args .sender) (omega arith)) in
+    let step = rw (← test, c .before .if2 .left) at (first-step P refl (l .before .before .before .args .t) (l .before .before .before .args .sender)
+    (omega arith)) in
     c .leader-from .ensures ∙ sym step)

@@ -14,7 +14,8 @@ use Rattle.codec.proofs.images.cells_at.Statement.{statement}
 use Rattle.codec.proofs.images.cells_at.Tie as tie
 
 abbrev Inv-loop : tie.InvT-loop
-Inv-loop s at cells₀ from₀ k₀ cells from k = (k ≤ senders) × ((from ≡ at + 4 * k) × ((length cells ≡ senders) × (sets cells k (map cellOf (unpack from (replicate (senders - k) 4) s)) ≡ map cellOf (unpack at cellWidths s))))
+Inv-loop s at cells₀ from₀ k₀ cells from k = (k ≤ senders) × ((from ≡ at + 4 * k) ×
+    ((length cells ≡ senders) × (sets cells k (map cellOf (unpack from (replicate (senders - k) 4) s)) ≡ map cellOf (unpack at cellWidths s))))
 
 abbrev μ-loop : tie.MeasureT-loop
 μ-loop s at cells₀ from₀ k₀ cells from k = senders - k
@@ -22,8 +23,17 @@ abbrev μ-loop : tie.MeasureT-loop
 loop-again : tie.Need-loop-again Inv-loop μ-loop
 loop-again c =
     let l = c .before .before .before .loop in
-    let step = rw (replicate-step senders (l .k) 4 (c .before .before .loop-test .taken)) at (l .inv .1 .1 .1) in
-    (omega arith, (omega arith, (simp length-set (l .inv .1 .1 .0), rw (c .estimate-of .ensures, c .before .be32 .ensures, add-one (l .k)) (rw (add-one (l .k)) at step))))
+    let step = rw (replicate-step senders (l .k) 4 (c .before .before .loop-test .taken)) at (l .inv .1 .1 .1) in (
+      omega arith,
+      (
+        omega arith,
+        (
+          simp length-set (l .inv .1 .1 .0),
+          rw (c .estimate-of .ensures, c .before .be32 .ensures, add-one (l .k))
+              (rw (add-one (l .k)) at step),
+        ),
+      ),
+    )
 
 returns : tie.Need-returns Inv-loop μ-loop
 returns c =

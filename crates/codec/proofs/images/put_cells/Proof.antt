@@ -13,7 +13,9 @@ use Rattle.codec.proofs.images.put_cells.Statement.{statement}
 use Rattle.codec.proofs.images.put_cells.Tie as tie
 
 abbrev Inv-loop : tie.InvT-loop
-Inv-loop out₀ at xs from₀ k₀ out from k = (k ≤ senders) × ((from ≡ at + 4 * k) × ((length out ≡ length out₀) × (packInto out from (replicate (senders - k) 4) (map cellCode (drop k xs)) ≡ packInto out₀ at cellWidths (map cellCode xs))))
+Inv-loop out₀ at xs from₀ k₀ out from k = (k ≤ senders) × ((from ≡ at + 4 * k) ×
+    ((length out ≡ length out₀) × (packInto out from (replicate (senders - k) 4) (map cellCode (drop k xs)) ≡ packInto out₀ at cellWidths
+    (map cellCode xs))))
 
 abbrev μ-loop : tie.MeasureT-loop
 μ-loop out₀ at xs from₀ k₀ out from k = senders - k
@@ -23,7 +25,11 @@ loop-again c =
     let l = c .before .before .before .before .before .before .before .loop in
     let xs = c .before .before .before .before .before .before .before .before .before .args .t1 in
     let below : l .k < length xs = omega arith in
-    let step = rw (replicate-step senders (l .k) 4 (c .before .before .before .before .before .before .loop-test .taken), drop-step xs (l .k) blankCell below) at (l .inv .1 .1 .1) in
+    let step = rw (
+      replicate-step senders (l .k) 4 (c .before .before .before .before .before .before .loop-test .taken),
+      drop-step xs
+          (l .k) blankCell below,
+    ) at (l .inv .1 .1 .1) in
     (omega arith, (omega arith, (omega arith, rw (c .before .before .put32 .ensures, c .before .before .before .code-of .ensures) step)))
 
 returns : tie.Need-returns Inv-loop μ-loop

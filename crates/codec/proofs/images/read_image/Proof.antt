@@ -18,13 +18,15 @@ returns-2 c =
     let b = c .before .before .before in
     c .checked-image .ensures
     ∙ ap (λ x. checked (imageFormat today) (some x)) (c .before .image-at .ensures)
-    ∙ sym (read-engine (imageFormat today) _ imageOf (λ vs. refl) (b .before .before .before .if1 .left) _ (sym (b .before .before .engine-at .ensures) ∙ b .e .given .1))
+    ∙ sym (read-engine (imageFormat today) _ imageOf (λ vs. refl) (b .before .before .before .if1 .left) _
+    (sym (b .before .before .engine-at .ensures) ∙ b .e .given .1))
 
 returns-3 : tie.Need-returns-3
 unfolding readImage
 returns-3 c =
     let b = c .before in
-    c .refused2 .ensures ∙ sym (read-engine (imageFormat today) _ imageOf (λ vs. refl) (b .before .before .before .if1 .left) _ (sym (b .before .before .engine-at .ensures) ∙ b .enum-told .given .1))
+    c .refused2 .ensures ∙ sym (read-engine (imageFormat today) _ imageOf (λ vs. refl) (b .before .before .before .if1 .left) _
+    (sym (b .before .before .engine-at .ensures) ∙ b .enum-told .given .1))
 
 pub read-image-spec : {M : Type 1} → statement M
 read-image-spec =

@@ -14,13 +14,15 @@ returns-2 c =
     let b = c .before .before .before in
     c .checked-log .ensures
     ∙ ap (λ x. checked (logFormat today) (some x)) (c .before .log-at .ensures)
-    ∙ sym (read-engine (logFormat today) _ logOf (λ vs. refl) (b .before .before .before .if1 .left) _ (sym (b .before .before .engine-at .ensures) ∙ b .e .given .1))
+    ∙ sym (read-engine (logFormat today) _ logOf (λ vs. refl) (b .before .before .before .if1 .left) _
+    (sym (b .before .before .engine-at .ensures) ∙ b .e .given .1))
 
 returns-3 : tie.Need-returns-3
 unfolding readLog
 returns-3 c =
     let b = c in
-    sym (read-engine (logFormat today) _ logOf (λ vs. refl) (b .before .before .before .if1 .left) _ (sym (b .before .before .engine-at .ensures) ∙ b .enum-told .given .1))
+    sym (read-engine (logFormat today) _ logOf (λ vs. refl) (b .before .before .before .if1 .left) _
+    (sym (b .before .before .engine-at .ensures) ∙ b .enum-told .given .1))
 
 pub read-log-spec : {M : Type 1} → statement M
 unfolding readLog

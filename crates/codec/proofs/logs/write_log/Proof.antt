@@ -22,4 +22,6 @@ pub write-log-spec : {M : Type 1} → statement M
 unfolding writeLog
 write-log-spec =
     tie.close
-    (tie.spec (λ c. rw (ne-eqb _ _ (c .if1 .taken))) (λ c κs. search needs) (λ c. rw (eq-eqb _ _ (c .before .before .if1 .left), sym (c .before .well-formed .ensures) ∙ not-true _ (c .if2 .taken))) (λ c κs. search needs) (λ c. search needs) returns-3)
+    (tie.spec (λ c. rw (ne-eqb _ _ (c .if1 .taken))) (λ c κs. search needs)
+    (λ c. rw (eq-eqb _ _ (c .before .before .if1 .left), sym (c .before .well-formed .ensures) ∙ not-true _ (c .if2 .taken))) (λ c κs. search needs)
+    (λ c. search needs) returns-3)

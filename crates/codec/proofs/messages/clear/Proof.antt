@@ -31,7 +31,8 @@ returns c =
     let out = c .before .before .before .args .out .now in
     let last : l .i ≡ messageSize today = omega arith in
     let short : length out ≤ messageSize today = omega arith in
-    rw (eq-eqb (length out) (messageSize today) (c .before .before .if1 .taken)) ((rw (last, drop-of-length-le out short) at (l .inv .1 .1)) ∙ append-nil (replicate (messageSize today) 0))
+    rw (eq-eqb (length out) (messageSize today) (c .before .before .if1 .taken))
+    ((rw (last, drop-of-length-le out short) at (l .inv .1 .1)) ∙ append-nil (replicate (messageSize today) 0))
 
 pub clear-spec : {M : Type 1} → statement M
 unfolding cleared

@@ -37,7 +37,8 @@ returns-3 c =
     rw (eq-eqb _ _ (sym long ∙ size), sym (b .before .well-formed .ensures) ∙ not-false _ (b .if2 .left))
     (ap (wrote 0)
     (c .before .before .put-message .ensures
-    ∙ packInto-eq (messageWidths today) (withZero messageZero (messageNumbers (c .before .before .before .before .before .before .before .before .before .before .before .before .args .m))) _ 0 refl (sym size)))
+    ∙ packInto-eq (messageWidths today) (withZero messageZero (messageNumbers
+    (c .before .before .before .before .before .before .before .before .before .before .before .before .args .m))) _ 0 refl (sym size)))
 
 pub write-message-spec : {M : Type 1} → statement M
 write-message-spec =

@@ -9,4 +9,5 @@ use Rattle.codec.proofs.numbers.put16.Tie as tie
 pub put16-spec : {M : Type 1} → statement M
 unfolding bytesOf
 put16-spec =
-    tie.close (tie.spec (λ c. search needs) (λ c. search needs) (λ c. search needs) (λ c. search needs) (λ c. simp length-set (omega arith)) (λ c. search needs) (λ c. simp towards-suc))
+    tie.close (tie.spec (λ c. search needs) (λ c. search needs) (λ c. search needs) (λ c. search needs) (λ c. simp length-set (omega arith))
+    (λ c. search needs) (λ c. simp towards-suc))

@@ -7,4 +7,5 @@ use Rattle.tally.proofs.Tally.mark.Tie as tie
 
 pub mark-spec : {M : Type 1} → statement M
 unfolding mark
-mark-spec = tie.close (tie.spec (λ c. search needs) (λ c. search needs) (λ c. search needs) (λ c. simp (one-mul, mod-eq-of-lt (pow-lt (c .before .before .pre)))))
+mark-spec = tie.close (tie.spec (λ c. search needs) (λ c. search needs) (λ c. search needs)
+    (λ c. simp (one-mul, mod-eq-of-lt (pow-lt (c .before .before .pre)))))
