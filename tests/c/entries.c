@@ -30,7 +30,7 @@ struct row {
     const char *hex;
 };
 
-/* A rule: with such a value in these fields, these good rows are accepted, or refused with the number. */
+/* A rule: these good rows, with one of the values in each of these fields, are accepted, or refused with the number. */
 struct rule {
     uint32_t rows, fields, number;
     struct values { const uint32_t *values; size_t count; } accepted, refused;
@@ -53,7 +53,7 @@ struct rule {
 #define NO_MILEAGE 10000000, 2147483648, 4294967293
 #define NOT_412077 412076, 412078, 412077 + 65536, 412077 + 16777216, MILEAGES, NO_MILEAGE, SPLIT, BLANK
 
-/* Logs. Sets of fields and of rows, the first of each being 1. */
+/* Logs. The rules name sets of fields and sets of rows: 1 is the first, 2 the second, 4 the third. */
 enum { L_ENGINE = 1, L_N = 2, L_UNIT = 4, L_ENTRY = 8, L_ROUND = 16, L_PROPOSAL = 32, L_FIRST = 64, L_SECOND = 128 };
 enum { B_FRESH = 1, B_3 = 2, R_3 = 4, B_16 = 8, R_16 = 16 };
 
@@ -184,17 +184,14 @@ static void well_formed_message(uint32_t *fields)
 }
 
 /* A format: its layout, its calls (the entry, then the reference), its rows and rules. */
-typedef uint32_t reading(const uint8_t *bytes, size_t bytes_len, uint32_t *fields, size_t fields_len);
-typedef uint32_t writing(const uint32_t *fields, size_t fields_len, uint8_t *bytes, size_t bytes_len);
-
 static const struct format {
     const char *name;
     size_t bytes_len, fields_len, zero; /* zero: the byte that is always 0 */
     uint8_t width[MOST_FIELDS];         /* how many bytes each field has */
     bool cleared;                       /* a refused writing leaves zeros, if the length is right */
     uint32_t malformed;
-    reading *read[2];
-    writing *write[2];
+    uint32_t (*read[2])(const uint8_t *bytes, size_t bytes_len, uint32_t *fields, size_t fields_len);
+    uint32_t (*write[2])(const uint32_t *fields, size_t fields_len, uint8_t *bytes, size_t bytes_len);
     void (*well_formed)(uint32_t *fields);
     const struct row *rows;
     const struct rule *rules;
@@ -305,7 +302,7 @@ static void must_give(const char *part, const struct format *format, enum way wa
     exit(1);
 }
 
-/* With these fields and their bytes the number is given; with a wrong length 1 is, whatever they are. */
+/* These bytes read, or these fields written, give the number; with a wrong length 1, whatever they are. */
 static void check_case(const char *part, const struct format *format, enum way way,
                        const uint8_t *bytes, const uint32_t *fields, uint32_t number, unsigned lengths)
 {
@@ -389,12 +386,12 @@ static void damage(uint32_t *fields, uint32_t count)
     uint32_t flipped = number ^ UINT32_C(1) << below(32);
 
     fields[one] = fields[two] = one_of(VALUES(
-        number, number + 1, number - 1, number + 256, number + 65536, flipped, between(0, 9999999),
+        number, number + 1, number - 1, number + 256, number + 65536, flipped, below(UINT32_MAX), between(0, 9999999),
         one_of(VALUES(NO_KIND)), one_of(VALUES(NO_ENGINE, 'R')), one_of(VALUES(NO_N, NOT_BELOW_16)),
         one_of(VALUES(NO_ENTRY, NO_ROUND)), one_of(VALUES(NO_MILEAGE, SPLIT, BLANK))));
 }
 
-/* Random: well-formed contents, most of them damaged. Says whether they were accepted; if so, they go back as well. */
+/* Random: contents well-formed, damaged or past all likeness. Says if they were accepted; then they go back too. */
 static bool check_random(const struct format *format, enum way way)
 {
     uint32_t fields[MOST_FIELDS];
@@ -407,7 +404,7 @@ static bool check_random(const struct format *format, enum way way)
     if (below(64) == 0)
         memset(fields, 0, sizeof fields);
     pack(format, fields, bytes);
-    if (below(4) == 0)
+    for (uint32_t hits = one_of(VALUES(0, 0, 0, 0, 0, 1, 40)); hits > 0; hits--)
         bytes[below((uint32_t)format->bytes_len)] = (uint8_t)below(256);
     before = lend(format, way, bytes, fields, below(8) ? 0 : below(LENGTHS * LENGTHS));
     wanted = after(format, way, THE_REFERENCE, before);

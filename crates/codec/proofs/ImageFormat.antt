@@ -145,7 +145,7 @@ module _ (l : Limits) (sane : Sane l) where
 
   pub image-round-trip : RoundTrip TypedImage (imageOk l) (numberOf Refusal.Image) (imageSize l) (readImage l) (writeImage l)
   unfolding readImage writeImage
-  image-round-trip = round-trip (imageFormat l) TypedImage lawful (λ bs. bs)
+  image-round-trip = round-trip (imageFormat l) TypedImage lawful _
 
 -- what is read has the code's types
 pub read-typed : (l : Limits) (sane : Sane l) (bs : List ℕ) (i : Image) → Bytes bs → readImage l bs ≡ reading 0 i → TypedImage i

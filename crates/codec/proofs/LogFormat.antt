@@ -89,4 +89,4 @@ module _ (l : Limits) (sane : Sane l) where
 
   pub log-round-trip : RoundTrip (λ r. Unit) (logOk l) (numberOf Refusal.Log) (logSize l) (readLog l) (writeLog l)
   unfolding readLog writeLog
-  log-round-trip = round-trip (logFormat l) (λ r. Unit) lawful (λ bs. bs)
+  log-round-trip = round-trip (logFormat l) (λ r. Unit) lawful _

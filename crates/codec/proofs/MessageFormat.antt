@@ -108,4 +108,4 @@ module _ (l : Limits) (sane : Sane l) where
 
   pub message-round-trip : RoundTrip (λ m. Unit) (messageOk l) (numberOf Refusal.Message) (messageSize l) (readMessage l) (writeMessage l)
   unfolding readMessage writeMessage
-  message-round-trip = round-trip (messageFormat l) (λ m. Unit) lawful (cleared l)
+  message-round-trip = round-trip (messageFormat l) (λ m. Unit) lawful _

@@ -18,9 +18,6 @@ module _ {A : Type 0} (f : Format A) (bs : List ℕ) where
   pub read-length : (length bs ≡ f .size → ⊥) → readBytes f bs ≡ reading (numberOf Length) (f .nothing)
   read-length n = rw (ne-eqb (length bs) (f .size) n)
 
-  pub read-not-zero : length bs ≡ f .size → (zeroByte f bs ≡ 0 → ⊥) → readBytes f bs ≡ reading (f .malformed) (f .nothing)
-  read-not-zero e n = rw (eq-eqb (length bs) (f .size) e, ne-eqb (zeroByte f bs) 0 n)
-
   pub read-row : length bs ≡ f .size → zeroByte f bs ≡ 0 → readBytes f bs ≡ fromNumbers f (rowNumbers f bs)
   read-row e z = rw (eq-eqb (length bs) (f .size) e, eq-eqb (zeroByte f bs) 0 z)
 
@@ -35,9 +32,6 @@ module _ {A : Type 0} (f : Format A) (bs : List ℕ) where
             ≡ checked f (withEngine make (cond t (engineOf (getD (rowNumbers f bs) 0 0)) Unknown) (rowNumbers f bs))
         go true = ap (checked f) (letters (rowNumbers f bs))
         go false = refl
-
-  pub write-length : (a : A) (kept : List ℕ) → (length bs ≡ f .size → ⊥) → writeBytes f a kept bs ≡ wrote (numberOf Length) kept
-  write-length a kept n = rw (ne-eqb (length bs) (f .size) n)
 
   pub write-malformed : (a : A) (kept : List ℕ) → length bs ≡ f .size → f .ok a ≡ false → writeBytes f a kept bs ≡ wrote (f .malformed) kept
   write-malformed a kept e ok = rw (eq-eqb (length bs) (f .size) e, ok)

@@ -19,7 +19,9 @@ pub(crate) fn be16(s: &[u8], at: usize) -> u16
     requires { ⌜ at + 2 ≤ length (now s) ⌝ }
     ensures { λ r. ⌜ r ≡ numAt (now (s .entry)) at 2 ⌝ }
 {
-    (be8(s, at) as u16) * 256 + (be8(s, at + 1) as u16)
+    let high = be8(s, at) as u16;
+    let low = be8(s, at + 1) as u16;
+    high * 256 + low
 }
 
 pub(crate) fn be32(s: &[u8], at: usize) -> u32

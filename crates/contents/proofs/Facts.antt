@@ -35,11 +35,6 @@ Known l Split = Unit
 Known l (Mileage m) = m ≤ l .maxMileage
 
 module _ (l : Limits) where
-  pub known-mileage : (e : Estimate) → isMileage l e ≡ true → Known l e
-  known-mileage Blank h = tt
-  known-mileage Split h = tt
-  known-mileage (Mileage m) h = leb-true _ _ h
-
   pub known-blank : (e : Estimate) → isBlank e ≡ true → Known l e
   known-blank Blank h = tt
   known-blank Split h = tt

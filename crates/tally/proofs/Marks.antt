@@ -16,7 +16,7 @@ use Rattle.tally.specs.Count.{bump, count}
 use Rattle.tally.specs.Tally.{isMarked}
 
 -- a number below 2 is 0 or 1
-pub bit : (P : ℕ → Type 0) → P 0 → P 1 → (b : ℕ) → b < 2 → P b
+bit : (P : ℕ → Type 0) → P 0 → P 1 → (b : ℕ) → b < 2 → P b
 bit P p q zero h = p
 bit P p q (suc zero) h = q
 bit P p q (suc (suc b)) h = absurd (omega arith)

@@ -1,6 +1,6 @@
 use native.Mathlib.Nat.{add-zero}
-use Rattle.codec.specs.Numbers.{numAt}
 use native.Mathlib.Omega.{arith}
+use Rattle.codec.specs.Numbers.{numAt}
 use borrow.Author.Needs.{needs}
 use Rattle.codec.proofs.numbers.be16.Statement.{statement}
 use Rattle.codec.proofs.numbers.be16.Tie as tie
@@ -9,12 +9,4 @@ pub be16-spec : {M : Type 1} → statement M
 unfolding numAt
 be16-spec =
     tie.close
-    (tie.spec
-    (λ c κs. search needs)
-    (λ c. search needs)
-    (λ c. search needs)
-    (λ c. search needs)
-    (λ c κs. search needs)
-    (λ c. search needs)
-    (λ c. search needs)
-    (λ c. rw (c .before .be8 .ensures, c .be82 .ensures) (simp add-zero (omega arith))))
+    (tie.spec (λ c κs. search needs) (λ c. search needs) (λ c. search needs) (λ c κs. search needs) (λ c. search needs) (λ c. search needs) (λ c. search needs) (λ c. rw (c .before .be8 .ensures, c .be82 .ensures) (simp add-zero (omega arith))))
