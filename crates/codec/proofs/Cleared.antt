@@ -42,8 +42,8 @@ num-zeros n o (suc k) = rw (num-zeros n o k, zeros n (o + k))
 pub empty-read : (l : Limits) → readMessage l (emptyBytes l) ≡ reading (numberOf Refusal.Message) noMessage
 unfolding readMessage
 empty-read l =
-    read-row (messageFormat l) (emptyBytes l) (length-replicate {A = ℕ} (messageSize l) 0) (num-zeros (messageSize l) 5 1)
-    ∙ rw (num-zeros (messageSize l) 0 1)
+    read-row (messageFormat l) (emptyBytes l) (length-replicate {A = ℕ} (messageSize l) 0) (num-zeros (messageSize l) _ 1)
+    ∙ rw (num-zeros (messageSize l) _ 1)
 
 -- writing contents of kind Empty gives 4 too
 pub empty-written : (l : Limits) (m : Message) (bs : List ℕ) → m .kind ≡ Empty → length bs ≡ messageSize l

@@ -29,8 +29,7 @@ returns-4 c =
     let letter = sym (b .engine-of .ensures) ∙ e .1 in
     rw (
       eq-eqb _ _ (b .before .before .before .before .before .if1 .left),
-      eq-eqb _ _
-          (b .before .before .before .before .if2 .left),
+      eq-eqb _ _ (b .before .before .before .before .if2 .left),
       letter,
       c .number4 .ensures,
     )
@@ -45,8 +44,7 @@ returns-5 c =
     let letter = sym (c .before .before .before .engine-of .ensures) ∙ c .before .enum-told .given .1 in
     rw (
       eq-eqb _ _ (c .before .before .before .before .before .before .before .before .if1 .left),
-      eq-eqb _ _
-          (c .before .before .before .before .before .before .before .if2 .left),
+      eq-eqb _ _ (c .before .before .before .before .before .before .before .if2 .left),
       letter,
       c .number5 .ensures,
     )

@@ -20,8 +20,7 @@ returns-3 c =
     (c .before .before .before .before .before .before .before .if1 .left) wide in
     rw (
       eq-eqb _ _ (c .before .before .before .before .before .before .before .if1 .left),
-      eq-eqb _ _
-          (c .before .before .before .before .before .before .if2 .left),
+      eq-eqb _ _ (c .before .before .before .before .before .before .if2 .left),
       refused,
     ) (c .before .before .refuse3 .ensures)
 
@@ -30,8 +29,7 @@ unfolding messageNarrow writeMessageCall
 returns-4 c =
     rw (
       eq-eqb _ _ (c .before .before .before .before .before .before .before .before .before .before .before .if1 .left),
-      eq-eqb _ _
-          (c .before .before .before .before .before .before .before .before .before .before .if2 .left),
+      eq-eqb _ _ (c .before .before .before .before .before .before .before .before .before .before .if2 .left),
     )
     (rw (c .before .before .before .before .before .before .kind-of .ensures, c .before .before .before .before .engine-of .ensures) at
     (c .before .before .write-known .ensures))

@@ -8,6 +8,5 @@ kind-of-spec = tie.close (tie.spec (λ c. simp (c .match .keys1)) (λ c. simp (c
       ne-eqb _ _ (c .match .rest .0 .0 .0 .1),
       ne-eqb _ _ (c .match .rest .0 .0 .1),
       ne-eqb _ _ (c .match .rest .0 .1),
-      ne-eqb _ _
-          (c .match .rest .1),
+      ne-eqb _ _ (c .match .rest .1),
     )))
