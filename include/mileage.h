@@ -32,6 +32,12 @@
 #define MILEAGE_MALFORMED_MESSAGE UINT32_C(4)
 
 /*
+ * What fields hold. Engine letter: 'B' or 'R'. n, the units: 3 to 16. A unit: below n. Entry: 1 to 9,999. Round: 0 to
+ * 9,999. Proposals and estimates: a mileage, 0 to 9,999,999, or blank or split where the kind and the engine allow it.
+ * Kind letter of a message: 'F' (FIRST), 'C' (CHECK, in B only), 'S' (SECOND), 'K' (SKIP).
+ */
+
+/*
  * The fields of a log, in this order: engine letter, n, unit, entry, round, proposal, first estimate, second estimate.
  * Reading: a refusal leaves the fields as they were.
  * Writing: a refusal leaves the log as it was. Fields that reading would refuse are refused, and so is a number too
@@ -47,7 +53,7 @@ uint32_t mileage_write_log(const uint32_t *fields, size_t fields_len, uint8_t *l
  * Writing: a refusal leaves a message buffer of 18 bytes all zeros, and one of another length as it was. Fields that
  * reading would refuse are refused, and so is a number too large for its bytes.
  */
-uint32_t mileage_read_message(const uint8_t *message, size_t len, uint32_t *fields, size_t fields_len);
-uint32_t mileage_write_message(const uint32_t *fields, size_t fields_len, uint8_t *message, size_t len);
+uint32_t mileage_read_message(const uint8_t *message, size_t message_len, uint32_t *fields, size_t fields_len);
+uint32_t mileage_write_message(const uint32_t *fields, size_t fields_len, uint8_t *message, size_t message_len);
 
 #endif

@@ -7,14 +7,13 @@ use Prim.Native.Nat.{ℕ, suc, _+_, _<_}
 use native.Mathlib.Omega.{arith}
 use lib.ListN.{length, getD, take, drop, replicate, length-append, length-drop, length-map, take-append-drop}
 use lib.Seq.{take-at, drop-at, getD-take, length-take-le}
-use Rattle.tally.specs.Limits.{Limits, today, logSize, imageSize, logFields, senders}
+use Rattle.tally.specs.Limits.{Limits, today, logSize, imageSize, logFields, senders, Sane}
 use Rattle.tally.specs.Tally.{Typed, blankCell, isMarked, placed}
 use Rattle.tally.specs.declared.Cell.{Cell}
 use Rattle.tally.specs.declared.Engine.{Engine}
 use Rattle.tally.specs.declared.Tally.{Tally}
 use Rattle.tally.specs.Refusal.{numberOf}
 use Rattle.tally.specs.declared.Refusal.{Refusal}
-use Rattle.tally.proofs.Bounds.{Sane}
 use Rattle.contents.specs.Estimates.{isB}
 use Rattle.contents.specs.Images.{imageLog, imageOk}
 use Rattle.contents.specs.Logs.{logOk}

@@ -8,13 +8,13 @@ use mathlib.Core.Option.{some}
 use lib.Dec.{eqb}
 use lib.ListN.{length, getD}
 use borrow.Author.Tests.{ne-eqb, eqb-true}
-use Rattle.tally.specs.Limits.{Limits, blankCode, splitCode}
+use Rattle.tally.specs.Limits.{Limits, blankCode, splitCode, Sane}
 use Rattle.tally.specs.declared.Engine.{Engine}
 use Rattle.tally.specs.declared.Engine.the-variants.{B, R}
 use Rattle.tally.specs.declared.Estimate.{Estimate}
 use Rattle.tally.specs.declared.Estimate.the-variants.{Blank, Split, Mileage}
 use Rattle.tally.proofs.Never.{never}
-use Rattle.tally.proofs.Bounds.{Sane, split-below-blank, blank-fits}
+use Rattle.tally.proofs.Bounds.{split-below-blank, blank-fits}
 use Rattle.contents.specs.declared.Kind.{Kind}
 use Rattle.contents.specs.declared.Kind.the-variants.{Empty, First, Check, Second, Skip}
 use Rattle.contents.proofs.Facts.{Known}

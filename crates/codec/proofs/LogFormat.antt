@@ -5,11 +5,11 @@ use mathlib.Core.Bool.{true}
 use mathlib.Core.List.{List}
 use native.Mathlib.Omega.{arith}
 use lib.ListN.{length, getD}
-use Rattle.tally.specs.Limits.{Limits, logSize, logFields}
+use Rattle.tally.specs.Limits.{Limits, logSize, logFields, Sane}
 use Rattle.tally.specs.declared.Engine.{Engine}
 use Rattle.tally.specs.Refusal.{numberOf}
 use Rattle.tally.specs.declared.Refusal.{Refusal}
-use Rattle.tally.proofs.Bounds.{Sane, entry-fits, units-fit, everyone-fits}
+use Rattle.tally.proofs.Bounds.{entry-fits, units-fit, everyone-fits}
 use Rattle.contents.specs.Logs.{logOk}
 use Rattle.contents.specs.declared.Log.{Log}
 use Rattle.contents.proofs.Facts.{log-facts, known-or-blank, known-second}

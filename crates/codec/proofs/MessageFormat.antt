@@ -6,10 +6,10 @@ use mathlib.Core.List.{List}
 use mathlib.Core.Option.{some}
 use native.Mathlib.Omega.{arith}
 use lib.ListN.{length, getD}
-use Rattle.tally.specs.Limits.{Limits, messageSize, messageFields}
+use Rattle.tally.specs.Limits.{Limits, messageSize, messageFields, Sane}
 use Rattle.tally.specs.Refusal.{numberOf}
 use Rattle.tally.specs.declared.Refusal.{Refusal}
-use Rattle.tally.proofs.Bounds.{Sane, entry-fits, units-fit, everyone-fits}
+use Rattle.tally.proofs.Bounds.{entry-fits, units-fit, everyone-fits}
 use Rattle.contents.specs.Messages.{kindOk, messageOk}
 use Rattle.contents.specs.declared.Kind.{Kind}
 use Rattle.contents.specs.declared.Kind.the-variants.{Empty}
@@ -19,7 +19,7 @@ use Rattle.tally.proofs.Never.{never}
 use Rattle.codec.specs.Codes.{engineOf, kindOf}
 use Rattle.codec.specs.Formats.{withZero}
 use Rattle.codec.specs.Messages.{messageWidths, messageZero, messageNumbers, messageOf, lettersRead}
-use Rattle.codec.specs.Messages.{parseMessage, cleared, messageFormat, readMessage, writeMessage}
+use Rattle.codec.specs.Messages.{parseMessage, messageFormat, readMessage, writeMessage}
 use Rattle.codec.specs.RoundTrip.{RoundTrip}
 use Rattle.codec.specs.declared.EngineRead.{EngineRead}
 use Rattle.codec.specs.declared.EngineRead.the-variants.{Is, Unknown}

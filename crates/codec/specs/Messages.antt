@@ -90,7 +90,7 @@ messageRow l bs = rowNumbers (messageFormat l) bs
 unfoldable pub readMessage : Limits → List ℕ → Reading Message
 readMessage l bs = readBytes (messageFormat l) bs
 
--- an empty message (the scope paper's term) is zero bytes
+-- an empty message (the scope paper's term) is 18 bytes, all zero
 abbrev pub emptyBytes : Limits → List ℕ
 emptyBytes l = replicate (messageSize l) 0
 

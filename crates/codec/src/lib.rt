@@ -1,4 +1,4 @@
-// Logs, images and messages as bytes: lengths and contents are refused first.
+// Logs, images and messages as bytes. A wrong length is refused first, then malformed contents.
 pub mod codes;
 pub mod images;
 pub mod logs;

@@ -94,7 +94,7 @@ pub fn read_log(s: &[u8]) -> LogRead
     }
 }
 
-// Three estimates, one after the other.
+// Three estimates, one after the other; the places add up as the widths do.
 fn put_three(out: &mut [u8], at: usize, a: Estimate, b: Estimate, c: Estimate)
     requires { ⌜ at + 12 ≤ length (now out) ⌝ }
     ensures { λ _. ⌜ now (out .exit) ≡ packInto (now (out .entry)) at (4 ∷ 4 ∷ 4 ∷ []) (codeOf a ∷ codeOf b ∷ codeOf c ∷ []) ⌝ }

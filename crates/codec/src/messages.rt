@@ -128,7 +128,7 @@ pub fn clear(out: &mut [u8])
     }
 }
 
-// Refuses as reading would, and then leaves an empty message.
+// Refuses as reading would, and then leaves an empty message in a buffer of its length; another keeps its bytes.
 pub fn write_message(m: Message, out: &mut [u8]) -> Refusal
     ensures { λ r. ⌜ wrote (numberOf r) (now (out .exit)) ≡ writeMessage today m (now (out .entry)) ⌝ }
 {

@@ -70,7 +70,7 @@ pub(crate) fn put_round(s: &mut [u8], at: usize, x: Round)
     put16(s, at, x);
 }
 
-// Four bytes, one after the other.
+// Four bytes, one after the other; the places add up as the widths do.
 pub(crate) fn put_four(out: &mut [u8], at: usize, a: u8, b: u8, c: u8, d: u8)
     requires { ⌜ at + 4 ≤ length (now out) ⌝ }
     ensures { λ _. ⌜ now (out .exit) ≡ packInto (now (out .entry)) at (1 ∷ 1 ∷ 1 ∷ 1 ∷ []) (a ∷ b ∷ c ∷ d ∷ []) ⌝ }

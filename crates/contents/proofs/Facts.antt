@@ -25,7 +25,7 @@ use Rattle.contents.specs.declared.Log.{Log}
 use Rattle.contents.specs.declared.Message.{Message}
 use Rattle.contents.specs.declared.State.{State}
 use Rattle.tally.proofs.Never.{never}
-use Rattle.tally.proofs.Tallies.{OnlyBelow}
+use Rattle.tally.specs.Tally.{OnlyBelow}
 use Rattle.contents.proofs.Tests.{both-true, or-left, every-at}
 
 -- an estimate that some place takes: a mileage is in its range

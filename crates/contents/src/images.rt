@@ -22,7 +22,7 @@ pub fn image_log(i: Image) -> Log
     Log { settings, state }
 }
 
-// A sender's mark, and the estimate in its place.
+// A sender's mark, and the estimate in its place; `split` says whether a marked one may be split.
 pub fn place_ok(split: bool, n: u8, sender: u8, marked: bool, e: Estimate) -> bool
     ensures { λ r. ⌜ r ≡ placeOk today split n sender marked e ⌝ }
 {

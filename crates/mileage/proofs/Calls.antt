@@ -20,8 +20,7 @@ use Rattle.codec.specs.Logs.{logFormat}
 use Rattle.codec.specs.Messages.{messageFormat, cleared}
 use Rattle.codec.proofs.LogFormat as log
 use Rattle.codec.proofs.MessageFormat as message
-use Rattle.tally.specs.Limits.{Limits, logFields, logSize, messageFields, messageSize}
-use Rattle.tally.proofs.Bounds.{Sane}
+use Rattle.tally.specs.Limits.{Limits, logFields, logSize, messageFields, messageSize, Sane}
 use Rattle.mileage.specs.Fields.{putNumbers, putChecked, readCall, writeCall, FieldTrip, readLogCall, writeLogCall, readMessageCall, writeMessageCall}
 
 -- storing as many numbers as there are leaves these numbers

@@ -113,13 +113,14 @@ pub(crate) fn put_message(m: Message, f: &mut [u32])
     f[8] = codec::codes::code_of(proposal);
 }
 
-// A round as a number, and the numbers that are rounds of that many bytes.
+// Does it fit a round's bytes?
 fn round_narrow(x: u32) -> bool
     ensures { λ r. ⌜ r ≡ ltb x (256 ^ today .roundWidth) ⌝ }
 {
     x < 65536
 }
 
+// A round as a number.
 fn wide_round(x: Round) -> u32
     ensures { λ r. ⌜ r ≡ x ⌝ }
 {

@@ -70,7 +70,7 @@ pub extern "C" fn mileage_read_message(message: &[u8], fields: &mut [u32]) -> u3
     }
 }
 
-// A refused message write leaves an empty message.
+// A refused message write leaves an empty message in a buffer of its length; another keeps its bytes.
 fn refuse(why: Refusal, message: &mut [u8]) -> u32
     ensures { λ r. ⌜ wrote r (now (message .exit)) ≡ wrote (numberOf why) (cleared today (now (message .entry))) ⌝ }
 {

@@ -2,12 +2,7 @@
 use mathlib.Core.Path.{_≡_, refl}
 use Prim.Native.Nat.{_^_, _<_}
 use native.Mathlib.Omega.{arith}
-use Rattle.tally.specs.Limits.{Limits, today, blankCode, splitCode, maxUnits, maxEntry, everyone, logSize, imageSize, messageSize}
-
--- limits that leave split and blank apart from every mileage, and each round its bytes
-pub record Sane (l : Limits) : Type 0 where
-  pub mileage-below-split : l .maxMileage < splitCode
-  pub round-fits : l .lastRound < 256 ^ l .roundWidth
+use Rattle.tally.specs.Limits.{Sane, today, blankCode, splitCode, maxUnits, maxEntry, everyone, logSize, imageSize, messageSize}
 
 pub sane-today : Sane today
 sane-today = record { mileage-below-split = omega arith; round-fits = omega arith }

@@ -6,7 +6,7 @@ use Prim.Native.Nat.{ℕ, zero, suc, _+_, _≤_, _<_}
 use native.Mathlib.Decide.{decLt}
 use native.Mathlib.Omega.{arith}
 use lib.ListN.{length}
-use Rattle.tally.specs.Count.{bump, passing, upTo, count}
+use Rattle.tally.specs.Count.{bump, passing, upTo, count, Both}
 use Rattle.tally.proofs.Never.{never}
 
 -- ---- of a list
@@ -85,13 +85,6 @@ count-below n (suc k) P h f = go (λ l. count-below n k P l (λ u a b. f u a (om
     go : (n ≤ k → count k P ≡ count n P) → Dec (k < n) → count (suc k) P ≡ count n P
     go ih (yes l) = let e : n ≡ suc k = omega arith in rw e
     go ih (no l) = let le : n ≤ k = omega arith in rw (f k le (omega arith)) (ih le)
-
--- a unit below n with both
-pub record Both (n : ℕ) (P Q : ℕ → Bool) : Type 0 where
-  pub at : ℕ
-  pub below : at < n
-  pub left : P at ≡ true
-  pub right : Q at ≡ true
 
 -- two sets of units below n that have more than n members together share one
 pub overlap : (n : ℕ) (P Q : ℕ → Bool) → n < count n P + count n Q → Both n P Q

@@ -12,16 +12,16 @@ use lib.ListN.{length, length-set}
 use lib.Pow.{pow-lt, pow-pos}
 use lib.Seq.{getD-set-same, getD-set-other}
 use Rattle.tally.specs.Limits.{senders}
-use Rattle.tally.specs.Count.{bump, passing, count}
+use Rattle.tally.specs.Count.{bump, passing, count, Both}
 use Rattle.tally.specs.Gathered.{holds, holders, firstPassing}
-use Rattle.tally.specs.Tally.{Typed, noMarks, isMarked, blankCell, placed, held, mark, gatheredFrom, gathered}
+use Rattle.tally.specs.Tally.{Typed, OnlyBelow, noMarks, isMarked, blankCell, placed, held, mark, gatheredFrom, gathered}
 use Rattle.tally.specs.Quorum.{quorumOf}
 use Rattle.tally.specs.declared.Cell.{Cell}
 use Rattle.tally.specs.declared.Engine.{Engine}
 use Rattle.tally.specs.declared.Estimate.{Estimate}
 use Rattle.tally.specs.declared.Estimate.the-variants.{Blank}
 use Rattle.tally.specs.declared.Tally.{Tally}
-use Rattle.tally.proofs.Count.{passing-all, count-same, count-below, Both}
+use Rattle.tally.proofs.Count.{passing-all, count-same, count-below}
 use Rattle.tally.proofs.Quorums.{quorums-overlap}
 use Rattle.tally.proofs.Marks.{ones-senders, mark-same, mark-other}
 
@@ -112,10 +112,6 @@ held-other t s u e n =
     (ap (λ (c : Cell). cond (isMarked (t .marks) u) (c .estimate) Blank) (getD-set-other (t .cells) s u (record { estimate = e }) blankCell n))
 
 -- ---- tallies in which only units below n are marked
-
--- no unit from n on is marked
-abbrev pub OnlyBelow : ℕ → ℕ → Type 0
-OnlyBelow n marks = (u : ℕ) → n ≤ u → u < senders → isMarked marks u ≡ false
 
 -- the ones of the marks are the marked units below n
 pub ones-units : (n marks : ℕ) → n ≤ senders → marks < 2 ^ senders → OnlyBelow n marks → ones marks ≡ count n (isMarked marks)

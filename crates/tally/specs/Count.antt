@@ -1,5 +1,6 @@
 -- Counting: the elements of a list, and the units below n, that pass a test. Assumes nothing.
-use Prim.Native.Nat.{ℕ, zero, suc}
+use Prim.Native.Nat.{ℕ, zero, suc, _<_}
+use mathlib.Core.Path.{_≡_}
 use mathlib.Core.Bool.{Bool, true, false}
 use mathlib.Core.List.{List, [], _∷_}
 
@@ -21,3 +22,10 @@ upTo (suc k) = k ∷ upTo k
 -- how many units below n pass the test P
 abbrev pub count : ℕ → (ℕ → Bool) → ℕ
 count n P = passing P (upTo n)
+
+-- a unit below n with both
+pub record Both (n : ℕ) (P Q : ℕ → Bool) : Type 0 where
+  pub at : ℕ
+  pub below : at < n
+  pub left : P at ≡ true
+  pub right : Q at ≡ true

@@ -51,6 +51,6 @@ leads need es Split = false
 leads need es (Mileage v) = leb need (holders v es)
 
 -- the majority mileage, or blank if there is none, where `need` of those gathered are a majority;
--- no two mileages can have over half of them, so that it does not matter where the search begins
+-- where `need` is over half of them no two mileages have it, so that it does not matter where the search begins
 unfoldable pub majority : ℕ → List Estimate → Estimate
 majority need es = firstPassing (leads need es) es

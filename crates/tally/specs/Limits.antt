@@ -1,5 +1,6 @@
--- Every limit and code of the scope paper, once. `src/limits.rt` has the same for the code. Assumes nothing.
-use Prim.Native.Nat.{ℕ, _+_}
+-- Every limit and code of the scope paper, once; `src/limits.rt` has them for the code. Letters are in codec's `Codes`, the numbers of
+-- refusals in `Refusal`. Assumes nothing.
+use Prim.Native.Nat.{ℕ, _+_, _^_, _<_}
 
 -- what later versions of the core may set otherwise
 pub record Limits : Type 0 where
@@ -63,3 +64,8 @@ places = 128
 
 abbrev pub scriptSize : ℕ
 scriptSize = 32768
+
+-- limits that leave split and blank apart from every mileage, and each round its bytes
+pub record Sane (l : Limits) : Type 0 where
+  pub mileage-below-split : l .maxMileage < splitCode
+  pub round-fits : l .lastRound < 256 ^ l .roundWidth

@@ -1,7 +1,7 @@
 -- Tallies: which senders are marked, and with what. Assumes nothing.
-use Prim.Native.Nat.{ℕ, zero, suc, _<_, _/_, _%_, _^_}
+use Prim.Native.Nat.{ℕ, zero, suc, _<_, _≤_, _/_, _%_, _^_}
 use mathlib.Core.Path.{_≡_}
-use mathlib.Core.Bool.{Bool, cond}
+use mathlib.Core.Bool.{Bool, false, cond}
 use mathlib.Core.List.{List, [], _∷_}
 use lib.Bits.{bitOr}
 use lib.Dec.{eqb}
@@ -46,3 +46,7 @@ gatheredFrom t s (suc k) = cond (isMarked (t .marks) s) (placed t s ∷ gathered
 
 unfoldable pub gathered : Tally → List Estimate
 gathered t = gatheredFrom t 0 senders
+
+-- no unit from n on is marked
+abbrev pub OnlyBelow : ℕ → ℕ → Type 0
+OnlyBelow n marks = (u : ℕ) → n ≤ u → u < senders → isMarked marks u ≡ false

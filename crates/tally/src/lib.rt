@@ -179,13 +179,13 @@ impl Tally {
     pub fn holders(self, v: u32) -> u32
         ensures { λ r. ⌜ r ≡ holders v (gathered self) ⌝ }
     {
-        let mut n: u32 = 0;
+        let mut found: u32 = 0;
         for s in 0..limits::MAX_UNITS {
             if holds(self.held(s), v) {
-                n += 1;
+                found += 1;
             }
         }
-        n
+        found
     }
 
     // The mileage of the lowest marked sender that has one; blank where none has.
@@ -239,7 +239,7 @@ impl Tally {
 }
 
 // The first estimate, from a unit number on, that leads: a recursion over unit numbers.
-pub fn leader_from(t: Tally, need: u32, sender: u8) -> Estimate
+fn leader_from(t: Tally, need: u32, sender: u8) -> Estimate
     requires { ⌜ sender ≤ senders ⌝ }
     ensures { λ r. ⌜ r ≡ firstPassing (leads need (gathered t)) (gatheredFrom t sender (senders - sender)) ⌝ }
 {
