@@ -29,27 +29,29 @@ use Rattle.tally.proofs.Marks.{ones-senders, mark-same, mark-other}
 abbrev pub rest : Tally → ℕ → List Estimate
 rest t s = gatheredFrom t s (senders - s)
 
--- one turn of a loop over the senders, for a test that blank fails
+-- one turn of a loop over the senders
+rest-step : (t : Tally) (s : ℕ) → s < senders → rest t s ≡ cond (isMarked (t .marks) s) (placed t s ∷ rest t (s + 1)) (rest t (s + 1))
+unfolding gatheredFrom
+rest-step t s below = let e : senders - s ≡ suc (senders - (s + 1)) = omega arith in rw e (rw (add-one s))
+
+-- the same, for a test that blank fails
 module _ (P : Estimate → Bool) (blank : P Blank ≡ false) (t : Tally) (s : ℕ) (below : s < senders) where
   pub passing-step : passing P (rest t s) ≡ bump (P (held t s)) (passing P (rest t (s + 1)))
-  unfolding gatheredFrom held
-  passing-step =
-      let e : senders - s ≡ suc (senders - (s + 1)) = omega arith in
-      rw e (rw (add-one s) (go (isMarked (t .marks) s) (gatheredFrom t (suc s) (senders - suc s))))
+  unfolding held
+  passing-step = ap (passing P) (rest-step t s below) ∙ go (isMarked (t .marks) s) (rest t (s + 1))
     where
       go : (b : Bool) (es : List Estimate) → passing P (cond b (placed t s ∷ es) es) ≡ bump (P (cond b (placed t s) Blank)) (passing P es)
       go true es = refl
       go false es = rw blank
 
   pub first-step : firstPassing P (rest t s) ≡ cond (P (held t s)) (held t s) (firstPassing P (rest t (s + 1)))
-  unfolding firstPassing gatheredFrom held
-  first-step =
-      let e : senders - s ≡ suc (senders - (s + 1)) = omega arith in
-      rw e (rw (add-one s) (go (isMarked (t .marks) s) (gatheredFrom t (suc s) (senders - suc s))))
+  unfolding firstPassing held
+  first-step = ap (firstPassing P) (rest-step t s below) ∙ go (isMarked (t .marks) s) (rest t (s + 1))
     where
-      go : (b : Bool) (es : List Estimate) → firstPassing P (cond b (placed t s ∷ es) es) ≡ cond (P (cond b (placed t s) Blank))
-          (cond b (placed t s) Blank)
-          (firstPassing P es)
+      here : Bool → Estimate
+      here b = cond b (placed t s) Blank
+
+      go : (b : Bool) (es : List Estimate) → firstPassing P (cond b (placed t s ∷ es) es) ≡ cond (P (here b)) (here b) (firstPassing P es)
       go true es = refl
       go false es = rw blank
 

@@ -9,5 +9,12 @@ pub be16-spec : {M : Type 1} → statement M
 unfolding numAt
 be16-spec =
     tie.close
-    (tie.spec (λ c κs. search needs) (λ c. search needs) (λ c. search needs) (λ c κs. search needs) (λ c. search needs) (λ c. search needs) (λ c. search needs)
+    (tie.spec
+    (λ c κs. search needs)
+    (λ c. search needs)
+    (λ c. search needs)
+    (λ c κs. search needs)
+    (λ c. search needs)
+    (λ c. search needs)
+    (λ c. search needs)
     (λ c. rw (c .before .be8 .ensures, c .be82 .ensures) (simp add-zero (omega arith))))
