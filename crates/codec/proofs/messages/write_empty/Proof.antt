@@ -1,3 +1,5 @@
+use Rattle.tally.specs.Refusal.{numberOf}
+use Rattle.tally.specs.declared.Refusal.the-variants.{Length}
 use mathlib.Core.Path.{sym, ap, _∙_}
 use lib.ListN.{length}
 use borrow.Author.Tests.{eq-eqb, ne-eqb}
@@ -15,7 +17,7 @@ returns c =
     let cleared-out = c .before .before .before .clear .ensures in
     let bs = c .before .before .before .before .before .before .args .out .now in
     let long = ap length cleared-out ∙ length-cleared today bs in
-    rw (ne-eqb _ _ (λ e. c .if1 .taken (long ∙ e))) (ap (wrote 1) (cleared-out ∙ rw (ne-eqb _ _ (λ e. c .if1 .taken (long ∙ e)))))
+    rw (ne-eqb _ _ (λ e. c .if1 .taken (long ∙ e))) (ap (wrote (numberOf Length)) (cleared-out ∙ rw (ne-eqb _ _ (λ e. c .if1 .taken (long ∙ e)))))
 
 returns-2 : tie.Need-returns-2
 unfolding cleared writeEmpty

@@ -1,3 +1,5 @@
+use Rattle.tally.specs.Refusal.{numberOf}
+use Rattle.tally.specs.declared.Refusal.the-variants.{Length, Message}
 use mathlib.Core.Path.{refl, sym, ap, _∙_}
 use lib.ListN.{length}
 use borrow.Author.Tests.{eq-eqb, ne-eqb, not-true, not-false}
@@ -16,7 +18,7 @@ returns c =
     let cleared-out = c .before .before .before .clear .ensures in
     let bs = c .before .before .before .before .before .before .args .out .now in
     let long = ap length cleared-out ∙ length-cleared today bs in
-    rw (ne-eqb _ _ (λ e. c .if1 .taken (long ∙ e))) (ap (wrote 1) cleared-out)
+    rw (ne-eqb _ _ (λ e. c .if1 .taken (long ∙ e))) (ap (wrote (numberOf Length)) cleared-out)
 
 returns-2 : tie.Need-returns-2
 unfolding writeMessage
@@ -24,7 +26,8 @@ returns-2 c =
     let cleared-out = c .before .before .before .before .before .clear .ensures in
     let bs = c .before .before .before .before .before .before .before .before .args .out .now in
     let long = ap length cleared-out ∙ length-cleared today bs in
-    rw (eq-eqb _ _ (sym long ∙ c .before .before .if1 .left), sym (c .before .well-formed .ensures) ∙ not-true _ (c .if2 .taken)) (ap (wrote 4) cleared-out)
+    rw (eq-eqb _ _ (sym long ∙ c .before .before .if1 .left), sym (c .before .well-formed .ensures) ∙ not-true _ (c .if2 .taken))
+    (ap (wrote (numberOf Message)) cleared-out)
 
 returns-3 : tie.Need-returns-3
 unfolding writeMessage
