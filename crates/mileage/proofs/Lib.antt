@@ -1,2 +1,4 @@
 pub mod Narrow
 pub mod Calls
+pub mod Rows
+pub mod Encoded

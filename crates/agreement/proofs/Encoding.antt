@@ -1,0 +1,298 @@
+-- A history over bytes is one over contents: the bytes of a world's units and messages, event by event. Assumes nothing.
+use Prim.Native.Nat.{ℕ, zero, suc, _%_, _<_}
+use mathlib.Core.Path.{_≡_, refl, sym, ap, ap₂, subst, _∙_}
+use mathlib.Core.Bool.{Bool, true, false, cond, not, _&&_, _||_}
+use mathlib.Core.List.{List, [], _∷_, _++_, map, List·Memᴰ, List·Memᴰ·head, List·Memᴰ·tail}
+use mathlib.Core.Logic.{_⊎_, inl, inr}
+use mathlib.Core.Option.{Option, none, some}
+use native.Mathlib.Decide.{decLt}
+use native.Mathlib.Omega.{arith}
+use lib.Dec.{eqb, ltb}
+use lib.ListN.{length, getElem?, replicate}
+use borrow.Author.Tests.{eqb-true, eqb-false, eq-eqb, ne-eqb, ltb-true, lt-ltb, not-false}
+use Rattle.tally.specs.Limits.{Limits, Sane, blankCode, logSize, imageSize, messageSize}
+use Rattle.tally.specs.Refusal.{numberOf}
+use Rattle.tally.specs.declared.Estimate.{Estimate}
+use Rattle.tally.specs.declared.Refusal.{Refusal}
+use Rattle.tally.proofs.Never.{never}
+use Rattle.contents.specs.Estimates.{mileageOrBlank}
+use Rattle.contents.specs.Messages.{messageOk}
+use Rattle.contents.specs.declared.Kind.{Kind}
+use Rattle.contents.specs.declared.Kind.the-variants.{Empty, First, Check, Second, Skip}
+use Rattle.contents.specs.declared.Message.{Message}
+use Rattle.contents.proofs.Facts.{known-or-blank}
+use Rattle.codec.specs.Codes.{kindLetter, codeOf, estimateOf}
+use Rattle.codec.specs.Formats.{toBytes}
+use Rattle.codec.specs.Images.{imageBytes}
+use Rattle.codec.specs.Messages.{messageFormat, emptyBytes, cleared}
+use Rattle.codec.specs.Numbers.{bytesOf}
+use Rattle.codec.proofs.Letters.{estimate-code}
+use Rattle.consensus.specs.Deliver as D
+use Rattle.consensus.specs.Rows.{Row, firstOf, NoneHolds}
+use Rattle.consensus.specs.Units.{WellFormed, unitLog, unitImage, downUnit, atLog}
+use Rattle.consensus.specs.declared.Answer.{Answer}
+use Rattle.consensus.specs.Step.{recovered}
+use Rattle.consensus.proofs.Soundness.{sound-propose, sound-deliver}
+use Rattle.consensus.proofs.Answers.{propose-power, deliver-power, propose-keeps}
+use Rattle.consensus.specs.declared.Power.{Power}
+use Rattle.consensus.specs.declared.Power.the-variants.{Down, Up}
+use Rattle.consensus.specs.declared.Unit as U
+use Rattle.mileage.specs.Calls.{Called, called, wrongLength, unitLengths, Refusing, logBytes, messageBytes, proposeCall, deliverCall, keyOnCall, proposeCallRows, deliverCallRows, keyOnCallRows}
+use Rattle.mileage.proofs.Encoded.{answered, read-log, read-image, read-message, propose-encoded, deliver-encoded, key-on-encoded, message-bytes}
+use Rattle.mileage.proofs.Rows.{propose-refusing, deliver-refusing, key-on-refusing, start-refusing}
+use Rattle.agreement.specs.Bytes as B
+use Rattle.agreement.specs.Bytes.{Station, Bytes, up, down, unlessEmpty, allZero}
+use Rattle.agreement.specs.Contents as C
+use Rattle.agreement.specs.Contents.{Contents}
+use Rattle.agreement.specs.Worlds.{World, put, change, keep, report, give, decision, Decision, Proposal}
+
+-- the bytes of a unit: an image only while it is up
+abbrev pub stationAt : Limits → Power → U.Unit → Station
+stationAt l Up x = up (logBytes l (unitLog x)) (imageBytes l (unitImage x))
+stationAt l Down x = down (logBytes l (unitLog x))
+
+abbrev pub station : Limits → U.Unit → Station
+station l x = stationAt l (x .power) x
+
+-- the bytes of a message that is not empty
+abbrev pub sentBytes : Limits → Message → List ℕ
+sentBytes l m = toBytes (messageFormat l) m
+
+-- the world b has the bytes of the world w
+pub record Encodes (l : Limits) (n : ℕ) (b : Bytes) (w : Contents) : Type 0 where
+  pub units : (u : ℕ) → u < n → b .units u ≡ station l (w .units u)
+  pub sent : b .sent ≡ map (sentBytes l) (w .sent)
+  pub proposed : b .proposed ≡ w .proposed
+  pub decided : b .decided ≡ w .decided
+
+-- what it takes that these bytes are read back
+pub record Valid (l : Limits) (n : ℕ) (w : Contents) : Type 0 where
+  pub units : (u : ℕ) → u < n → WellFormed l (w .units u)
+  pub sent : (m : Message) → List·Memᴰ m (w .sent) → messageOk l m ≡ true
+
+-- ---- units
+
+module _ {U : Type 0} (f : ℕ → U) (u : ℕ) (x : U) where
+  put-here : put f u x u ≡ x
+  put-here = rw (eq-eqb u u refl)
+
+  -- what holds of x at u and of f elsewhere
+  put-all : (P : ℕ → U → Type 0) → P u x → ((v : ℕ) → P v (f v)) → (v : ℕ) → P v (put f u x v)
+  put-all P here there v = go (eqb v u) refl
+    where
+      go : (b : Bool) → eqb v u ≡ b → P v (cond b x (f v))
+      go true e = subst (λ z. P z x) (sym (eqb-true v u e)) here
+      go false e = there v
+
+module _ (l : Limits) (n : ℕ) (b : Bytes) (w : Contents) (enc : Encodes l n b w) (u : ℕ) where
+  -- the unit is replaced in both
+  encodes-change : (x : Station) (y : U.Unit) → (u < n → x ≡ station l y) → Encodes l n (change b u x) (change w u y)
+  encodes-change x y same = record { units = both; sent = enc .sent; proposed = enc .proposed; decided = enc .decided }
+    where
+      both : (v : ℕ) → v < n → put (b .units) u x v ≡ station l (put (w .units) u y v)
+      both v h = go (eqb v u) refl
+        where
+          go : (t : Bool) → eqb v u ≡ t → cond t x (b .units v) ≡ station l (cond t y (w .units v))
+          go true e = same (subst (λ z. z < n) (eqb-true v u e) h)
+          go false e = enc .units v h
+
+  -- the unit has the same bytes as before
+  encodes-same : (x : Station) → (u < n → x ≡ station l (w .units u)) → Encodes l n (change b u x) w
+  encodes-same x same = record { units = both; sent = enc .sent; proposed = enc .proposed; decided = enc .decided }
+    where
+      both : (v : ℕ) → v < n → put (b .units) u x v ≡ station l (w .units v)
+      both v h = go (eqb v u) refl
+        where
+          go : (t : Bool) → eqb v u ≡ t → cond t x (b .units v) ≡ station l (w .units v)
+          go true e = let q = eqb-true v u e in rw q (same (subst (λ z. z < n) q h))
+          go false e = enc .units v h
+
+-- ---- messages and decisions
+
+all-zeros : (k : ℕ) → allZero (replicate k 0) ≡ true
+all-zeros zero = refl
+all-zeros (suc k) = all-zeros k
+
+-- a message begins with its kind's letter, which is not 0
+letter-first : (l : Limits) (m : Message) → eqb (kindLetter (m .kind) % 256) 0 ≡ false → allZero (sentBytes l m) ≡ false
+unfolding bytesOf
+letter-first l m letter = rw letter
+
+module _ (l : Limits) (n : ℕ) (b : Bytes) (w : Contents) (enc : Encodes l n b w) where
+  map-snoc : (ms : List Message) (m : Message) → map (sentBytes l) (ms ++ (m ∷ [])) ≡ map (sentBytes l) ms ++ (sentBytes l m ∷ [])
+  map-snoc [] m = refl
+  map-snoc (x ∷ ms) m = ap (_∷_ (sentBytes l x)) (map-snoc ms m)
+
+  encodes-sent : (m : Message) → eqb (kindLetter (m .kind) % 256) 0 ≡ false → Encodes l n (keep b (unlessEmpty (sentBytes l m))) (keep w (some m))
+  encodes-sent m letter =
+      rw (letter-first l m letter)
+      (record { units = enc .units; sent = ap (λ ms. ms ++ (sentBytes l m ∷ [])) (enc .sent) ∙ sym (map-snoc (w .sent) m); proposed = enc .proposed; decided = enc .decided })
+
+  encodes-keep : (k : Kind) (m : Message) → m .kind ≡ k → Encodes l n (keep b (unlessEmpty (messageBytes l k m))) (keep w (C.unlessEmpty k m))
+  unfolding messageBytes
+  encodes-keep Empty m e = rw (all-zeros (messageSize l)) enc
+  encodes-keep First m e = encodes-sent m (rw e)
+  encodes-keep Check m e = encodes-sent m (rw e)
+  encodes-keep Second m e = encodes-sent m (rw e)
+  encodes-keep Skip m e = encodes-sent m (rw e)
+
+  encodes-report : (d : Option Decision) → Encodes l n (report b d) (report w d)
+  encodes-report none = enc
+  encodes-report (some d) =
+      record { units = enc .units; sent = enc .sent; proposed = enc .proposed; decided = ap (λ ds. ds ++ (d ∷ [])) (enc .decided) }
+
+  encodes-give : (p : Proposal) → Encodes l n (give b p) (give w p)
+  encodes-give p = record { units = enc .units; sent = enc .sent; proposed = ap (λ ps. ps ++ (p ∷ [])) (enc .proposed); decided = enc .decided }
+
+-- ---- calls
+
+-- a length that is not wrong
+or-length : (a : Bool) (bs : List ℕ) (k : ℕ) → (a || wrongLength bs k) ≡ false → length bs ≡ k
+or-length true bs k h = never (sym h)
+or-length false bs k h = eqb-true (length bs) k (not-false (eqb (length bs) k) h)
+
+-- after an event the world has the bytes of the same contents, or of those after an event of theirs
+abbrev pub Follows : Limits → ℕ → Bytes → Contents → Type 0
+Follows l n b w = Encodes l n b w ⊎ ((e : C.Event) × Encodes l n b (C.step l n w e))
+
+-- a refused call leaves log and image as they were
+record Unchanged (old-log old-image : List ℕ) (c : Called) : Type 0 where
+  number : eqb (c .number) 0 ≡ false
+  log : c .log ≡ old-log
+  image : c .image ≡ old-image
+
+unchanged : (l : Limits) (rows : List Row) (log image out : List ℕ) (c : Called) → Refusing l rows log image out c → eqb (c .number) 0 ≡ false
+    → Unchanged log image c
+unchanged l rows log image out c r e =
+    let same = r .refused (eqb-false (c .number) 0 e) in
+    record { number = e; log = ap (λ (x : Called). x .log) same; image = ap (λ (x : Called). x .image) same }
+
+module _ (l : Limits) (sane : Sane l) (n : ℕ) (b : Bytes) (w : Contents) (enc : Encodes l n b w) (u : ℕ) where
+  -- what an accepted step answered is what the call did, as bytes
+  module _ (a : Answer) (on : a .unit .power ≡ Up) (known : mileageOrBlank l (a .decision) ≡ true) (number : numberOf (a .refusal) ≡ 0) where
+    encodes-after : (r : ℕ) → Encodes l n (B.after b u r (answered l a)) (C.after w u r a)
+    unfolding B.after C.after
+    encodes-after r =
+        rw (eq-eqb (numberOf (a .refusal)) 0 number, estimate-code l sane (a .decision) (known-or-blank l (a .decision) known))
+        (encodes-report l n _ _
+        (encodes-keep l n _ _ (encodes-change l n b w enc u _ (a .unit) (λ h. rw on)) (a .message .kind) (a .message) refl)
+        (decision u r (a .decision)))
+
+    encodes-proposal : (v : ℕ) → Encodes l n (B.afterProposal b u v (answered l a)) (C.afterProposal w u v a)
+    unfolding B.afterProposal C.afterProposal
+    encodes-proposal v =
+        rw (eq-eqb (numberOf (a .refusal)) 0 number) (encodes-give l n _ _ (encodes-after 0) (record { unit = u; mileage = v }))
+
+    encodes-cut : Encodes l n (B.afterCut b u (answered l a)) (C.afterCut w u a)
+    unfolding B.afterCut C.afterCut D.keyOff D.unless firstOf downUnit atLog
+    encodes-cut = rw (eq-eqb (numberOf (a .refusal)) 0 number, on) (encodes-change l n b w enc u _ _ (λ h. refl))
+
+  -- a refused call leaves all units with their bytes
+  module _ (on : w .units u .power ≡ Up) (c : Called) (kept : Unchanged (logBytes l (unitLog (w .units u))) (imageBytes l (unitImage (w .units u))) c) where
+    encodes-up : Encodes l n (change b u (up (c .log) (c .image))) w
+    encodes-up = encodes-same l n b w enc u (up (c .log) (c .image)) (λ h. rw (kept .log, kept .image, on))
+
+    refused-after : (r : ℕ) → Encodes l n (B.after b u r c) w
+    unfolding B.after
+    refused-after r = rw (kept .number) encodes-up
+
+    refused-proposal : (v : ℕ) → Encodes l n (B.afterProposal b u v c) w
+    unfolding B.afterProposal
+    refused-proposal v = rw (kept .number) (refused-after 0)
+
+    refused-cut : Encodes l n (B.afterCut b u c) w
+    unfolding B.afterCut
+    refused-cut = rw (kept .number) encodes-up
+
+-- a call, accepted or refused, and what an event makes of its answer
+module _ (l : Limits) (n : ℕ) (w : Contents) (rows : List Row) (log image out : List ℕ) (c : Called) (law : Refusing l rows log image out c) (a : Answer)
+    (same : NoneHolds rows → c ≡ answered l a) (f : Called → Bytes) where
+  follow : (e : C.Event) → (numberOf (a .refusal) ≡ 0 → Encodes l n (f (answered l a)) (C.step l n w e)) → (Unchanged log image c → Encodes l n (f c) w)
+      → Follows l n (f c) w
+  follow e accepted refused = go (eqb (c .number) 0) refl
+    where
+      go : (t : Bool) → eqb (c .number) 0 ≡ t → Follows l n (f c) w
+      go true h =
+          let q = same (law .number .accepted (eqb-true (c .number) 0 h)) in
+          inr (
+            e,
+            subst (λ z. Encodes l n (f z) (C.step l n w e)) (sym q) (accepted (ap (λ (r : Called). r .number) (sym q) ∙ eqb-true (c .number) 0 h)),
+          )
+      go false h = inl (refused (unchanged l rows log image out c law h))
+
+module _ (l : Limits) (sane : Sane l) (n : ℕ) (b : Bytes) (w : Contents) (enc : Encodes l n b w) (valid : Valid l n w) (u : ℕ) (below : u < n) where
+  abbrev log : List ℕ
+  log = logBytes l (unitLog (w .units u))
+
+  abbrev image : List ℕ
+  image = imageBytes l (unitImage (w .units u))
+
+  module _ (on : w .units u .power ≡ Up) (out : List ℕ) where
+    on-proposal : (v : ℕ) → Follows l n (B.afterProposal b u v (proposeCall l log image v out)) w
+    unfolding proposeCallRows C.step C.apply
+    on-proposal v =
+        follow l n w (proposeCallRows l log image v out) log image out (proposeCall l log image v out) (propose-refusing l log image v out) a
+        (λ none. propose-encoded l sane (w .units u) (valid .units u below) on v out (or-length (unitLengths l log image) out (messageSize l) (none .0)))
+        (B.afterProposal b u v) (C.proposal u v)
+        (λ zero-number. rw (lt-ltb u n below) (encodes-proposal l sane n b w enc u a (propose-power l (w .units u) v ∙ on) (sound-propose l (w .units u) v (valid .units u below) .decision) zero-number v))
+        (λ kept. refused-proposal l sane n b w enc u on (proposeCall l log image v out) kept v)
+      where
+        a : Answer
+        a = D.propose l (w .units u) v
+
+    module _ (m : Message) (ok : messageOk l m ≡ true) where
+      -- a delivery or a cut of it, as f makes of the call's answer and e is of contents
+      on-message : (f : Called → Bytes) (e : C.Event)
+          → ((a : Answer) → a ≡ D.deliver l (w .units u) m → a .unit .power ≡ Up → mileageOrBlank l (a .decision) ≡ true → numberOf (a .refusal) ≡ 0
+          → Encodes l n (f (answered l a)) (C.step l n w e))
+          → ((c : Called) → Unchanged log image c → Encodes l n (f c) w)
+          → Follows l n (f (deliverCall l log image (sentBytes l m) out)) w
+      unfolding deliverCallRows
+      on-message f e accepted refused =
+          follow l n w (deliverCallRows l log image (sentBytes l m) out) log image out (deliverCall l log image (sentBytes l m) out)
+          (deliver-refusing l log image (sentBytes l m) out) (D.deliver l (w .units u) m)
+          (λ none. deliver-encoded l sane (w .units u) (valid .units u below) on m out ok
+          (or-length (unitLengths l log image || wrongLength (sentBytes l m) (messageSize l)) out (messageSize l) (none .0)))
+          f e
+          (λ number. accepted (D.deliver l (w .units u) m) refl (deliver-power l (w .units u) m ∙ on)
+          (sound-deliver l (w .units u) m (valid .units u below) .decision) number)
+          (refused (deliverCall l log image (sentBytes l m) out))
+
+      module _ (k : ℕ) (there : getElem? (w .sent) k ≡ some m) where
+        on-delivery : Follows l n (B.after b u (m .round) (deliverCall l log image (sentBytes l m) out)) w
+        unfolding C.step C.apply C.delivered
+        on-delivery =
+            on-message (B.after b u (m .round)) (C.delivery u k)
+            (λ a same up known number. rw (lt-ltb u n below, there) (subst (λ z. Encodes l n (B.after b u (m .round) (answered l a)) (C.after w u (m .round) z)) same
+            (encodes-after l sane n b w enc u a up known number (m .round))))
+            (λ c kept. refused-after l sane n b w enc u on c kept (m .round))
+
+        on-cut : Follows l n (B.afterCut b u (deliverCall l log image (sentBytes l m) out)) w
+        unfolding C.step C.apply C.deliveredCut
+        on-cut =
+            on-message (B.afterCut b u) (C.cut u k)
+            (λ a same up known number. rw (lt-ltb u n below, there) (subst (λ z. Encodes l n (B.afterCut b u (answered l a)) (C.afterCut w u z)) same
+            (encodes-cut l sane n b w enc u a up known number)))
+            (λ c kept. refused-cut l sane n b w enc u on c kept)
+
+  -- key-off, of a unit up or down
+  on-off : Follows l n (change b u (down (b .units u .log))) w
+  unfolding C.step C.apply D.keyOff D.unless firstOf downUnit atLog
+  on-off = inr (C.off u, rw (lt-ltb u n below) (encodes-change l n b w enc u _ _ (λ h. rw (enc .units u below) (go (w .units u .power) refl))))
+    where
+      go : (p : Power) → w .units u .power ≡ p → down (stationAt l p (w .units u) .log) ≡ station l (D.keyOff (w .units u) .unit)
+      go Up e = rw e
+      go Down e = rw e
+
+  -- key-on of a down unit, whatever the image buffer held
+  on-key : w .units u .power ≡ Down → (buffer : List ℕ) → Follows l n (B.afterKeyOn b u (keyOnCall l log buffer)) w
+  unfolding B.afterKeyOn C.step C.apply keyOnCallRows unitLengths D.keyOn D.unless firstOf downUnit atLog recovered
+  on-key off buffer = go (eqb (keyOnCall l log buffer .number) 0) refl
+    where
+      go : (t : Bool) → eqb (keyOnCall l log buffer .number) 0 ≡ t → Follows l n (cond t (change b u (up (keyOnCall l log buffer .log) (keyOnCall l log buffer .image))) b) w
+      go true e =
+          let none = key-on-refusing l log buffer .number .accepted (eqb-true (keyOnCall l log buffer .number) 0 e) in
+          let size = or-length (wrongLength log (logSize l)) buffer (imageSize l) (none .0) in
+          inr (C.on u, rw (key-on-encoded l sane (unitLog (w .units u)) buffer (valid .units u below .log) size, lt-ltb u n below)
+          (encodes-change l n b w enc u _ _ (λ h. rw off)))
+      go false e = inl enc

@@ -1,0 +1,198 @@
+-- A history over bytes: the scope paper's events, each of which runs the calls' own definitions. Assumes nothing.
+use Prim.Native.Nat.{ℕ}
+use mathlib.Core.Path.{_≡_}
+use mathlib.Core.Bool.{Bool, true, cond, _&&_}
+use mathlib.Core.List.{List, [], _∷_}
+use mathlib.Core.Option.{Option, none, some}
+use lib.Dec.{eqb, ltb}
+use lib.ListN.{getElem?}
+use Rattle.tally.specs.Limits.{Limits}
+use Rattle.contents.specs.declared.State.{State}
+use Rattle.codec.specs.Codes.{letterOf, estimateOf}
+use Rattle.codec.specs.Formats.{Wrote}
+use Rattle.codec.specs.Images.{readImage}
+use Rattle.codec.specs.Logs.{readLog}
+use Rattle.codec.specs.Messages.{readMessage, emptyBytes}
+use Rattle.mileage.specs.Calls.{Called, startCall, keyOnCall, proposeCall, deliverCall}
+use Rattle.mileage.specs.Fields.{readLogCall, writeLogCall, readMessageCall, writeMessageCall}
+use Rattle.agreement.specs.Worlds.{Setup, World, put, change, keep, report, give, decision}
+
+-- a unit of a history: the bytes of its log and, while it is up, of its image
+pub record Station : Type 0 where
+  pub log : List ℕ
+  pub image : Option (List ℕ)
+
+abbrev pub up : List ℕ → List ℕ → Station
+up log image = record { log = log; image = some image }
+
+abbrev pub down : List ℕ → Station
+down log = record { log = log; image = none }
+
+-- messages sent are kept as copies of their bytes
+abbrev pub Bytes : Type 0
+Bytes = World Station (List ℕ)
+
+-- a buffer that a host lends: the log or the image of a unit, or any other
+pub data Lent : Type 0 where
+  logOf imageOf : ℕ → Lent
+  other : List ℕ → Lent
+
+-- any call of any entry, with any numbers and buffers
+pub data Call : Type 0 where
+  starts : (engine n unit entry : ℕ) (log image : Lent) → Call
+  keysOn : (log image : Lent) → Call
+  proposes : (log image : Lent) (mileage : ℕ) (out : Lent) → Call
+  delivers : (log image message out : Lent) → Call
+  readsLog readsMessage : (bytes : Lent) (fields : List ℕ) → Call
+  writesLog writesMessage : (fields : List ℕ) (bytes : Lent) → Call
+
+-- every event of a history; `out` and `image` are what the output or image buffer held before
+pub data Event : Type 0 where
+  proposal : (unit mileage : ℕ) (out : List ℕ) → Event
+  delivery cut : (unit message : ℕ) (out : List ℕ) → Event
+  off : (unit : ℕ) → Event
+  on : (unit : ℕ) (image : List ℕ) → Event
+  -- a call with any buffers, which is an event where it is refused
+  call : Call → Event
+
+-- starting unit u in the buffers given
+abbrev pub startOf : Limits → Setup → (ℕ → List ℕ) → (ℕ → List ℕ) → ℕ → Called
+startOf l c logs images u = startCall l (letterOf (c .engine)) (c .n) u (c .entry) (logs u) (images u)
+
+-- at its start each unit has been started once, whatever its buffers held before; all are up and nothing is sent
+unfoldable pub begun : Limits → Setup → (ℕ → List ℕ) → (ℕ → List ℕ) → Bytes
+begun l c logs images = record { units = λ u. up (startOf l c logs images u .log) (startOf l c logs images u .image); sent = []; proposed = []; decided = [] }
+
+-- ---- proposal, delivery, cut delivery, key-off, key-on
+
+-- the empty message is zeros
+abbrev pub allZero : List ℕ → Bool
+allZero [] = true
+allZero (b ∷ bs) = eqb b 0 && allZero bs
+
+abbrev pub unlessEmpty : List ℕ → Option (List ℕ)
+unlessEmpty bs = cond (allZero bs) none (some bs)
+
+-- the log and image that the call gives are the unit's from then on; where it is accepted its message, unless empty, is kept next,
+-- and its decision, if any, is reported
+unfoldable pub after : Bytes → ℕ → ℕ → Called → Bytes
+after w u r c =
+    let now = change w u (up (c .log) (c .image)) in
+    cond (eqb (c .number) 0) (report (keep now (unlessEmpty (c .out))) (decision u r (estimateOf (c .decision)))) now
+
+-- an accepted proposal is recorded as well
+unfoldable pub afterProposal : Bytes → ℕ → ℕ → Called → Bytes
+afterProposal w u v c = cond (eqb (c .number) 0) (give (after w u 0 c) (record { unit = u; mileage = v })) (after w u 0 c)
+
+-- accepted, the log it gives is the unit's from then on; image, message and decision are lost and the unit is down
+unfoldable pub afterCut : Bytes → ℕ → Called → Bytes
+afterCut w u c = cond (eqb (c .number) 0) (change w u (down (c .log))) (change w u (up (c .log) (c .image)))
+
+-- accepted, the unit is up with that image
+unfoldable pub afterKeyOn : Bytes → ℕ → Called → Bytes
+afterKeyOn w u c = cond (eqb (c .number) 0) (change w u (up (c .log) (c .image))) w
+
+-- a message's round; that of a decision is the round of the SECOND delivered, which is that of all the SECONDs gathered
+abbrev pub roundOf : Limits → List ℕ → ℕ
+roundOf l message = readMessage l message .contents .round
+
+-- the event of unit u with the image it has, none where it is down, and the message of the number given, none where not yet sent
+unfoldable pub proposalOf : Limits → Bytes → ℕ → ℕ → List ℕ → Option (List ℕ) → Bytes
+proposalOf l w u v out none = w
+proposalOf l w u v out (some image) = afterProposal w u v (proposeCall l (w .units u .log) image v out)
+
+unfoldable pub deliveryOf : Limits → Bytes → ℕ → List ℕ → Option (List ℕ) → Option (List ℕ) → Bytes
+deliveryOf l w u out (some image) (some m) = after w u (roundOf l m) (deliverCall l (w .units u .log) image m out)
+deliveryOf l w u out none m = w
+deliveryOf l w u out (some image) none = w
+
+unfoldable pub cutOf : Limits → Bytes → ℕ → List ℕ → Option (List ℕ) → Option (List ℕ) → Bytes
+cutOf l w u out (some image) (some m) = afterCut w u (deliverCall l (w .units u .log) image m out)
+cutOf l w u out none m = w
+cutOf l w u out (some image) none = w
+
+unfoldable pub keyOnOf : Limits → Bytes → ℕ → List ℕ → Option (List ℕ) → Bytes
+keyOnOf l w u image none = afterKeyOn w u (keyOnCall l (w .units u .log) image)
+keyOnOf l w u image (some i) = w
+
+-- ---- any other call
+
+-- the bytes that a lent buffer holds; a down unit has no image to lend
+abbrev pub bytesOr : Option (List ℕ) → List ℕ
+bytesOr none = []
+bytesOr (some bs) = bs
+
+abbrev pub lentBytes : Bytes → Lent → List ℕ
+lentBytes w (logOf u) = w .units u .log
+lentBytes w (imageOf u) = bytesOr (w .units u .image)
+lentBytes w (other bs) = bs
+
+-- what a call leaves: its number, and the bytes in each buffer at exit
+pub record Exit : Type 0 where
+  pub lent : Lent
+  pub bytes : List ℕ
+
+abbrev pub exit : Lent → List ℕ → Exit
+exit b bs = record { lent = b; bytes = bs }
+
+pub record Ended : Type 0 where
+  pub number : ℕ
+  pub exits : List Exit
+
+abbrev pub ended : Called → Lent → Lent → Lent → Ended
+ended c log image out = record { number = c .number; exits = exit log (c .log) ∷ exit image (c .image) ∷ exit out (c .out) ∷ [] }
+
+abbrev pub endedFields : Wrote → Lent → Ended
+endedFields r out = record { number = r .number; exits = exit out (r .out) ∷ [] }
+
+unfoldable pub runCall : Limits → Bytes → Call → Ended
+runCall l w (starts engine n unit entry log image) = ended (startCall l engine n unit entry (lentBytes w log) (lentBytes w image)) log image (other [])
+runCall l w (keysOn log image) = ended (keyOnCall l (lentBytes w log) (lentBytes w image)) log image (other [])
+runCall l w (proposes log image mileage out) = ended (proposeCall l (lentBytes w log) (lentBytes w image) mileage (lentBytes w out)) log image out
+runCall l w (delivers log image message out) =
+    ended (deliverCall l (lentBytes w log) (lentBytes w image) (lentBytes w message) (lentBytes w out)) log image out
+runCall l w (readsLog bytes fields) = endedFields (readLogCall l (lentBytes w bytes) fields) (other fields)
+runCall l w (readsMessage bytes fields) = endedFields (readMessageCall l (lentBytes w bytes) fields) (other fields)
+runCall l w (writesLog fields bytes) = endedFields (writeLogCall l fields (lentBytes w bytes)) bytes
+runCall l w (writesMessage fields bytes) = endedFields (writeMessageCall l fields (lentBytes w bytes)) bytes
+
+-- what is left in a unit's log or image is there from then on
+abbrev pub imageLeft : Option (List ℕ) → List ℕ → Option (List ℕ)
+imageLeft none bs = none
+imageLeft (some i) bs = some bs
+
+abbrev pub leave : Bytes → Lent → List ℕ → Bytes
+leave w (logOf u) bs = change w u (record { log = bs; image = w .units u .image })
+leave w (imageOf u) bs = change w u (record { log = w .units u .log; image = imageLeft (w .units u .image) bs })
+leave w (other cs) bs = w
+
+unfoldable pub leaveAll : Bytes → List Exit → Bytes
+leaveAll w [] = w
+leaveAll w (x ∷ xs) = leaveAll (leave w (x .lent) (x .bytes)) xs
+
+-- ---- histories
+
+-- units are numbered 0 to n − 1: an event of another is none
+abbrev pub ofUnit : ℕ → ℕ → Bytes → Bytes → Bytes
+ofUnit n u w next = cond (ltb u n) next w
+
+unfoldable pub step : Limits → ℕ → Bytes → Event → Bytes
+step l n w (proposal u v out) = ofUnit n u w (proposalOf l w u v out (w .units u .image))
+step l n w (delivery u k out) = ofUnit n u w (deliveryOf l w u out (w .units u .image) (getElem? (w .sent) k))
+step l n w (cut u k out) = ofUnit n u w (cutOf l w u out (w .units u .image) (getElem? (w .sent) k))
+step l n w (off u) = ofUnit n u w (change w u (down (w .units u .log)))
+step l n w (on u image) = ofUnit n u w (keyOnOf l w u image (w .units u .image))
+step l n w (call c) = leaveAll w (runCall l w c .exits)
+
+-- a call with any buffers is an event exactly where it is refused
+abbrev pub LawfulEvent : Limits → Bytes → Event → Type 0
+LawfulEvent l w (proposal u v out) = Unit
+LawfulEvent l w (delivery u k out) = Unit
+LawfulEvent l w (cut u k out) = Unit
+LawfulEvent l w (off u) = Unit
+LawfulEvent l w (on u image) = Unit
+LawfulEvent l w (call c) = runCall l w c .number ≡ 0 → ⊥
+
+abbrev pub Lawful : Limits → ℕ → Bytes → List Event → Type 0
+Lawful l n w [] = Unit
+Lawful l n w (e ∷ es) = LawfulEvent l w e × Lawful l n (step l n w e) es

@@ -1,0 +1,92 @@
+-- A history over contents: units and messages as the step has them. Assumes nothing.
+use Prim.Native.Nat.{ℕ}
+use mathlib.Core.Path.{_≡_}
+use mathlib.Core.Bool.{Bool, true, cond}
+use mathlib.Core.List.{List, []}
+use mathlib.Core.Option.{Option, none, some}
+use lib.Dec.{eqb, ltb}
+use lib.ListN.{getElem?}
+use Rattle.tally.specs.Limits.{Limits}
+use Rattle.tally.specs.Refusal.{numberOf}
+use Rattle.contents.specs.declared.Kind.{Kind}
+use Rattle.contents.specs.declared.Kind.the-variants.{Empty, First, Check, Second, Skip}
+use Rattle.contents.specs.declared.Message.{Message}
+use Rattle.contents.specs.declared.State.{State}
+use Rattle.consensus.specs.Deliver.{propose, deliver, keyOff, keyOn, isUp}
+use Rattle.consensus.specs.Step.{fresh}
+use Rattle.consensus.specs.declared.Answer.{Answer}
+use Rattle.consensus.specs.declared.Unit as U
+use Rattle.agreement.specs.Worlds.{Setup, settingsOf, World, change, keep, report, give, decision, Agreed}
+
+abbrev pub Contents : Type 0
+Contents = World U.Unit Message
+
+-- every event is of one unit
+pub data Event : Type 0 where
+  proposal : ℕ → ℕ → Event
+  delivery cut : ℕ → ℕ → Event
+  off on : ℕ → Event
+
+abbrev pub eventUnit : Event → ℕ
+eventUnit (proposal u v) = u
+eventUnit (delivery u k) = u
+eventUnit (cut u k) = u
+eventUnit (off u) = u
+eventUnit (on u) = u
+
+-- at its start each of the units has been started once; all are up and nothing is sent
+unfoldable pub begun : Setup → Contents
+begun c = record { units = λ u. fresh (settingsOf c u); sent = []; proposed = []; decided = [] }
+
+-- a message unless it is empty
+abbrev pub unlessEmpty : Kind → Message → Option Message
+unlessEmpty Empty m = none
+unlessEmpty First m = some m
+unlessEmpty Check m = some m
+unlessEmpty Second m = some m
+unlessEmpty Skip m = some m
+
+abbrev pub accepted : Answer → Bool
+accepted a = eqb (numberOf (a .refusal)) 0
+
+-- the unit, message and decision that a step of unit u in round r answered; a refusal's answer changes nothing
+unfoldable pub after : Contents → ℕ → ℕ → Answer → Contents
+after w u r a = report (keep (change w u (a .unit)) (unlessEmpty (a .message .kind) (a .message))) (decision u r (a .decision))
+
+-- a cut: the log is the unit's from now on; image, message and decision are lost and the unit is down
+unfoldable pub afterCut : Contents → ℕ → Answer → Contents
+afterCut w u a = cond (accepted a) (change w u (keyOff (a .unit) .unit)) w
+
+unfoldable pub afterProposal : Contents → ℕ → ℕ → Answer → Contents
+afterProposal w u v a = cond (accepted a) (give (after w u 0 a) (record { unit = u; mileage = v })) w
+
+-- with a message number not yet sent, everything stays as it was
+unfoldable pub delivered : Limits → Contents → ℕ → Option Message → Contents
+delivered l w u none = w
+delivered l w u (some m) = after w u (m .round) (deliver l (w .units u) m)
+
+unfoldable pub deliveredCut : Limits → Contents → ℕ → Option Message → Contents
+deliveredCut l w u none = w
+deliveredCut l w u (some m) = afterCut w u (deliver l (w .units u) m)
+
+unfoldable pub apply : Limits → Contents → Event → Contents
+apply l w (proposal u v) = afterProposal w u v (propose l (w .units u) v)
+apply l w (delivery u k) = delivered l w u (getElem? (w .sent) k)
+apply l w (cut u k) = deliveredCut l w u (getElem? (w .sent) k)
+apply l w (off u) = change w u (keyOff (w .units u) .unit)
+apply l w (on u) = change w u (keyOn (w .units u) .unit)
+
+-- units are numbered 0 to n − 1
+unfoldable pub step : Limits → ℕ → Contents → Event → Contents
+step l n w e = cond (ltb (eventUnit e) n) (apply l w e) w
+
+abbrev pub HasLog : U.Unit → State → Type 0
+HasLog x s = x .logged ≡ s
+
+-- while up
+abbrev pub HasImage : U.Unit → State → Type 0
+HasImage x s = (isUp (x .power) ≡ true) × (x .current ≡ s)
+
+-- demand 3 over contents
+abbrev pub AgreedContents : Limits → ℕ → Contents → List Event → Type 0
+AgreedContents l n w es = Agreed n HasLog HasImage (step l n) w es

@@ -1,0 +1,4 @@
+pub mod Worlds
+pub mod Contents
+pub mod Bytes
+pub mod Demand3

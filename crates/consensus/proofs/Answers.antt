@@ -1,0 +1,67 @@
+-- What every answer of a step has: no refusal, and the unit's power. Assumes nothing.
+use Prim.Native.Nat.{ℕ}
+use mathlib.Core.Path.{_≡_, refl}
+use mathlib.Core.Bool.{Bool, true, false, cond}
+use mathlib.Core.List.{List}
+use lib.Dec.{eqb}
+use Rattle.tally.specs.Refusal.{numberOf}
+use Rattle.tally.specs.Limits.{Limits}
+use Rattle.tally.specs.declared.Estimate.the-variants.{Blank}
+use Rattle.tally.specs.declared.Refusal.{Refusal}
+use Rattle.contents.specs.declared.Message.{Message}
+use Rattle.consensus.specs.Deliver.{refuses, unless, proposeRows, propose, deliverRows, deliver}
+use Rattle.consensus.specs.Rows.{Row, firstOf}
+use Rattle.consensus.specs.Step.{logWrite, atRound, sendFirst, proposed, takeFirst, takeSecond, checksWith, close, secondsWith, onKind, skip, received}
+use Rattle.consensus.specs.Units.{unitLog}
+use Rattle.consensus.specs.declared.Answer.{Answer}
+use Rattle.consensus.specs.declared.Unit as U
+use Rattle.consensus.proofs.Branches.{by-round, by-kind, by-check, by-second}
+
+-- an answer of the unit u that refuses nothing
+pub record Plain (u : U.Unit) (a : Answer) : Type 0 where
+  pub none : a .refusal ≡ Refusal.None
+  pub power : a .unit .power ≡ u .power
+
+pub plain-received : (u : U.Unit) (m : Message) → Plain u (received u m)
+unfolding skip takeFirst takeSecond close logWrite atRound
+plain-received u m = by-round (Plain u) u m (λ h. record { none = refl; power = refl }) (λ h. kind u refl) (λ h. kind (atRound u (m .round) (m .proposal)) refl)
+  where
+    kind : (v : U.Unit) → v .power ≡ u .power → Plain u (onKind (m .kind) v m)
+    kind v same =
+        by-kind (Plain u) (m .kind) v m
+        (record {
+          nothing = record { none = refl; power = same };
+          first = λ k h. record { none = refl; power = same };
+          checks = λ k h i. by-check (Plain u) v (checksWith v m) (λ f. record { none = refl; power = same }) (λ f. record { none = refl; power = same });
+          seconds = λ k h. by-second (Plain u) v (secondsWith v m) (λ f. record { none = refl; power = same }) (λ f. record { none = refl; power = same });
+        })
+
+pub plain-proposed : (u : U.Unit) (v : ℕ) → Plain u (proposed u v)
+unfolding proposed sendFirst
+plain-proposed u v = record { none = refl; power = refl }
+
+-- a refusal keeps the unit, and so its power
+unless-power : (rows : List Row) (u : U.Unit) (a : Answer) → a .unit .power ≡ u .power → unless rows u a .unit .power ≡ u .power
+unfolding unless
+unless-power rows u a h = go (eqb (numberOf (firstOf rows)) 0)
+  where
+    go : (b : Bool) → cond b a (refuses u (firstOf rows)) .unit .power ≡ u .power
+    go true = h
+    go false = refl
+
+pub propose-power : (l : Limits) (u : U.Unit) (v : ℕ) → propose l u v .unit .power ≡ u .power
+unfolding propose
+propose-power l u v = unless-power (proposeRows l u v) u (proposed u v) (plain-proposed u v .power)
+
+pub deliver-power : (l : Limits) (u : U.Unit) (m : Message) → deliver l u m .unit .power ≡ u .power
+unfolding deliver
+deliver-power l u m = unless-power (deliverRows l u m) u (received u m) (plain-received u m .power)
+
+-- a proposal writes no log and decides nothing
+pub propose-keeps : (l : Limits) (u : U.Unit) (v : ℕ) → (unitLog (propose l u v .unit) ≡ unitLog u) × (propose l u v .decision ≡ Blank)
+unfolding propose unless proposed sendFirst
+propose-keeps l u v = go (eqb (numberOf (firstOf (proposeRows l u v))) 0) (firstOf (proposeRows l u v))
+  where
+    go : (b : Bool) (k : Refusal) → (unitLog (cond b (proposed u v) (refuses u k) .unit) ≡ unitLog u) × (cond b (proposed u v) (refuses u k) .decision ≡ Blank)
+    go true k = (refl, refl)
+    go false k = (refl, refl)

@@ -1,0 +1,5 @@
+pub mod Rows
+pub mod Units
+pub mod Step
+pub mod Deliver
+pub mod Sound

@@ -1,0 +1,207 @@
+-- The calls on the bytes of well-formed units and messages answer what the step does, as bytes. Assumes nothing.
+use Prim.Native.Nat.{ℕ}
+use mathlib.Core.Path.{_≡_, refl, sym, ap, ap₂, _∙_}
+use mathlib.Core.Bool.{Bool, true, false, cond}
+use mathlib.Core.List.{List, []}
+use lib.Dec.{eqb}
+use lib.ListN.{length}
+use borrow.Author.Tests.{eq-eqb, not-false}
+use Rattle.tally.specs.Limits.{Limits, Sane, blankCode, logSize, imageSize, messageSize}
+use Rattle.tally.specs.Refusal.{numberOf}
+use Rattle.tally.specs.declared.Engine.{Engine}
+use Rattle.tally.specs.declared.Refusal.{Refusal}
+use Rattle.tally.proofs.Never.{never}
+use Rattle.contents.specs.Logs.{logOk, numbersOk, settingsOk}
+use Rattle.contents.specs.Messages.{kindOk, messageOk}
+use Rattle.contents.specs.declared.Kind.{Kind}
+use Rattle.contents.specs.declared.Kind.the-variants.{Empty, First, Check, Second, Skip}
+use Rattle.contents.specs.declared.Log.{Log}
+use Rattle.contents.specs.declared.Message.{Message}
+use Rattle.contents.proofs.Facts.{message-facts}
+use Rattle.codec.specs.Codes.{codeOf, engineOf}
+use Rattle.codec.specs.Formats.{reading, Format, toBytes}
+use Rattle.codec.specs.Images.{imageFormat, readImage, imageBytes}
+use Rattle.codec.specs.Logs.{logFormat, readLog}
+use Rattle.codec.specs.Messages.{messageFormat, readMessage, emptyBytes, cleared}
+use Rattle.codec.specs.declared.EngineRead.{EngineRead}
+use Rattle.codec.specs.declared.EngineRead.the-variants.{Is, Unknown}
+use Rattle.codec.proofs.ImageFormat as image
+use Rattle.codec.proofs.LogFormat as log
+use Rattle.codec.proofs.MessageFormat as message
+use Rattle.codec.proofs.RoundTrips.{Lawful, read-written}
+use Rattle.codec.proofs.Rows.{length-pack}
+use Rattle.consensus.specs.Deliver.{propose, deliver, keyOn, proposeRows, deliverRows, unless, refuses}
+use Rattle.consensus.specs.Rows.{Row, firstOf, NoneHolds}
+use Rattle.consensus.specs.Step.{received, proposed, fresh}
+use Rattle.consensus.proofs.Answers.{plain-received, plain-proposed, propose-keeps}
+use Rattle.consensus.specs.Units.{WellFormed, unitLog, unitImage, upUnit, downUnit}
+use Rattle.consensus.specs.declared.Answer.{Answer}
+use Rattle.consensus.specs.declared.Power.the-variants.{Up}
+use Rattle.consensus.specs.declared.Unit as U
+use Rattle.mileage.proofs.Rows.{start-refusing}
+use Rattle.mileage.specs.Calls.{Called, called, unlessRow, unitLengths, badLog, badImage, badMessage, badSettings, logBytes, messageBytes}
+use Rattle.mileage.specs.Calls.{startCallRows, startCall, keyOnCallRows, keyOnCall, proposeCallRows, proposeCall, deliverCallRows, deliverCall}
+
+-- an answer as bytes, where the buffers' lengths are right
+abbrev pub answered : Limits → Answer → Called
+answered l a =
+    called (numberOf (a .refusal)) (logBytes l (unitLog (a .unit))) (imageBytes l (unitImage (a .unit))) (messageBytes l (a .message .kind) (a .message))
+    (codeOf (a .decision))
+
+-- a start that is accepted
+pub record Started (l : Limits) (engine n unit entry : ℕ) (c : Called) : Type 0 where
+  pub known : Engine
+  pub letter : engineOf engine ≡ Is known
+  pub range : settingsOk (record { engine = known; n = n; unit = unit; entry = entry }) ≡ true
+  pub answer : c ≡ called 0 (logBytes l (unitLog (fresh (record { engine = known; n = n; unit = unit; entry = entry }))))
+      (imageBytes l (unitImage (fresh (record { engine = known; n = n; unit = unit; entry = entry })))) [] blankCode
+
+-- the same of an answer that is accepted
+abbrev accepted : Limits → Answer → Called
+accepted l a = called 0 (answered l a .log) (answered l a .image) (answered l a .out) (answered l a .decision)
+
+length-bytes : {A : Type 0} (f : Format A) (Typed : A → Type 0) (law : Lawful f Typed) (a : A) → Typed a → f .ok a ≡ true
+    → length (toBytes f a) ≡ f .size
+length-bytes f Typed law a t ok = length-pack (f .widths) _ (law .fit a t ok) ∙ sym (law .sized)
+
+-- a message that is well formed is not empty
+pub message-bytes : (l : Limits) (m : Message) → messageOk l m ≡ true → messageBytes l (m .kind) m ≡ toBytes (messageFormat l) m
+unfolding messageBytes kindOk
+message-bytes l m ok = go (m .kind) (message-facts l m ok .kind)
+  where
+    go : (k : Kind) → kindOk l k m ≡ true → messageBytes l k m ≡ toBytes (messageFormat l) m
+    go Empty h = never h
+    go First h = refl
+    go Check h = refl
+    go Second h = refl
+    go Skip h = refl
+
+module _ (l : Limits) (sane : Sane l) where
+  pub read-log : (r : Log) → logOk l r ≡ true → (readLog l (logBytes l r) ≡ reading 0 r) × (length (logBytes l r) ≡ logSize l)
+  unfolding readLog logBytes
+  read-log r ok = (
+    read-written (logFormat l) (λ r. Unit) (log.lawful l sane) r tt ok,
+    length-bytes (logFormat l) (λ r. Unit) (log.lawful l sane) r tt ok,
+  )
+
+  pub read-image : (u : U.Unit) → WellFormed l u
+      → (readImage l (imageBytes l (unitImage u)) ≡ reading 0 (unitImage u)) × (length (imageBytes l (unitImage u)) ≡ imageSize l)
+  unfolding readImage imageBytes
+  read-image u w = (
+    read-written (imageFormat l) _ (image.lawful l sane) (unitImage u) (w .checks, w .seconds) (w .image),
+    length-bytes (imageFormat l) _ (image.lawful l sane) (unitImage u) (w .checks, w .seconds) (w .image),
+  )
+
+  pub read-message : (m : Message) → messageOk l m ≡ true
+      → (readMessage l (toBytes (messageFormat l) m) ≡ reading 0 m) × (length (toBytes (messageFormat l) m) ≡ messageSize l)
+  unfolding readMessage
+  read-message m ok = (
+    read-written (messageFormat l) (λ m. Unit) (message.lawful l sane) m tt ok,
+    length-bytes (messageFormat l) (λ m. Unit) (message.lawful l sane) m tt ok,
+  )
+
+  -- the rows of a unit's bytes
+  module _ (u : U.Unit) (w : WellFormed l u) where
+    unit-lengths : unitLengths l (logBytes l (unitLog u)) (imageBytes l (unitImage u)) ≡ false
+    unfolding unitLengths
+    unit-lengths =
+        rw (
+          eq-eqb (length (logBytes l (unitLog u))) (logSize l) (read-log (unitLog u) (w .log) .1),
+          eq-eqb (length (imageBytes l (unitImage u))) (imageSize l) (read-image u w .1),
+        )
+
+    unit-log : badLog l (logBytes l (unitLog u)) ≡ false
+    unfolding badLog
+    unit-log = rw (read-log (unitLog u) (w .log) .0)
+
+    unit-image : badImage l (logBytes l (unitLog u)) (imageBytes l (unitImage u)) ≡ false
+    unfolding badImage
+    unit-image = rw (read-log (unitLog u) (w .log) .0, read-image u w .0, w .fit)
+
+    -- where the rows of a call come to those of the step, the call's answer is the step's, as bytes
+    same-answer : (rows late : List Row) (a : Answer) (out : List ℕ) → firstOf rows ≡ firstOf late → a .refusal ≡ Refusal.None
+        → length out ≡ messageSize l
+        → unlessRow l rows (logBytes l (unitLog u)) (imageBytes l (unitImage u)) out (accepted l (unless late u a)) ≡ answered l (unless late u a)
+    unfolding unless messageBytes cleared
+    same-answer rows late a out same none size =
+        rw (same, eq-eqb (length out) (messageSize l) size) (go (firstOf late) (eqb (numberOf (firstOf late)) 0) refl)
+      where
+        go : (k : Refusal) (b : Bool) → eqb (numberOf k) 0 ≡ b
+            → cond b (accepted l (cond b a (refuses u k))) (called (numberOf k) (logBytes l (unitLog u)) (imageBytes l (unitImage u)) (emptyBytes l) blankCode)
+            ≡ answered l (cond b a (refuses u k))
+        go k true e = ap (λ r. called (numberOf r) (answered l a .log) (answered l a .image) (answered l a .out) (answered l a .decision)) (sym none)
+        go k false e = refl
+
+    module _ (up : u .power ≡ Up) where
+      -- an up unit is that of its log and image
+      same-unit : upUnit (unitLog u) (unitImage u) ≡ u
+      same-unit =
+          ap (λ p. record { power = p; settings = u .settings; logged = u .logged; current = u .current; checks = u .checks; seconds = u .seconds }) (sym up)
+
+      module _ (m : Message) (out : List ℕ) (ok : messageOk l m ≡ true) (size : length out ≡ messageSize l) where
+        deliver-rows : firstOf (deliverCallRows l (logBytes l (unitLog u)) (imageBytes l (unitImage u)) (toBytes (messageFormat l) m) out)
+            ≡ firstOf (deliverRows l u m)
+        unfolding deliverCallRows deliverRows firstOf badMessage
+        deliver-rows =
+            rw (
+              unit-lengths,
+              unit-log,
+              unit-image,
+              eq-eqb (length (toBytes (messageFormat l) m)) (messageSize l) (read-message m ok .1),
+              eq-eqb (length out) (messageSize l) size,
+              read-message m ok .0,
+              read-log (unitLog u) (w .log) .0,
+              read-image u w .0,
+              same-unit,
+              up,
+              ok,
+            )
+
+        pub deliver-encoded : deliverCall l (logBytes l (unitLog u)) (imageBytes l (unitImage u)) (toBytes (messageFormat l) m) out
+            ≡ answered l (deliver l u m)
+        unfolding deliverCall deliver
+        deliver-encoded =
+            rw (read-message m ok .0, read-log (unitLog u) (w .log) .0, read-image u w .0, same-unit)
+            (same-answer (deliverCallRows l (logBytes l (unitLog u)) (imageBytes l (unitImage u)) (toBytes (messageFormat l) m) out) (deliverRows l u m) (received u m) out
+            deliver-rows (plain-received u m .none) size)
+
+      module _ (v : ℕ) (out : List ℕ) (size : length out ≡ messageSize l) where
+        propose-rows : firstOf (proposeCallRows l (logBytes l (unitLog u)) (imageBytes l (unitImage u)) v out) ≡ firstOf (proposeRows l u v)
+        unfolding proposeCallRows proposeRows firstOf
+        propose-rows = rw (unit-lengths, unit-log, unit-image, eq-eqb (length out) (messageSize l) size, up)
+
+        pub propose-encoded : proposeCall l (logBytes l (unitLog u)) (imageBytes l (unitImage u)) v out ≡ answered l (propose l u v)
+        unfolding proposeCall propose
+        propose-encoded =
+            let keeps = propose-keeps l u v in
+            rw (read-log (unitLog u) (w .log) .0, read-image u w .0, same-unit)
+            (ap₂ (λ (r : Log) (d : ℕ).
+            unlessRow l (proposeCallRows l (logBytes l (unitLog u)) (imageBytes l (unitImage u)) v out) (logBytes l (unitLog u)) (imageBytes l (unitImage u)) out
+            (called 0 (logBytes l r) (answered l (propose l u v) .image) (answered l (propose l u v) .out) d))
+            (sym (keeps .0)) (ap codeOf (sym (keeps .1)))
+            ∙ same-answer (proposeCallRows l (logBytes l (unitLog u)) (imageBytes l (unitImage u)) v out) (proposeRows l u v) (proposed u v) out
+            propose-rows (plain-proposed u v .none) size)
+
+  -- key-on of a log's bytes, whatever the image buffer holds
+  pub key-on-encoded : (r : Log) (image : List ℕ) → logOk l r ≡ true → length image ≡ imageSize l
+      → keyOnCall l (logBytes l r) image ≡ called 0 (logBytes l r) (imageBytes l (unitImage (keyOn (downUnit r) .unit))) [] blankCode
+  unfolding keyOnCall keyOnCallRows firstOf badLog unitLengths
+  key-on-encoded r image ok size =
+      rw (
+        eq-eqb (length (logBytes l r)) (logSize l) (read-log r ok .1),
+        eq-eqb (length image) (imageSize l) size,
+        read-log r ok .0,
+      )
+
+  -- starting, whatever the buffers hold
+  pub start-accepted : (engine n unit entry : ℕ) (log image : List ℕ) → startCall l engine n unit entry log image .number ≡ 0
+      → Started l engine n unit entry (startCall l engine n unit entry log image)
+  unfolding startCall startCallRows firstOf badSettings
+  start-accepted engine n unit entry log image zero = go (engineOf engine) refl (rows .1 .0)
+    where
+      rows : NoneHolds (startCallRows l engine n unit entry log image)
+      rows = start-refusing l engine n unit entry log image .number .accepted zero
+
+      go : (o : EngineRead) → engineOf engine ≡ o → badSettings o n unit entry ≡ false → Started l engine n unit entry (startCall l engine n unit entry log image)
+      go Unknown e h = never (sym h)
+      go (Is g) e h = record { known = g; letter = e; range = not-false (numbersOk n unit entry) h; answer = rw (rows .0, e, h) }

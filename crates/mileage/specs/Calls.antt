@@ -1,0 +1,165 @@
+-- The four calls of a unit over bytes: the rows that refuse, in order, and else the step. Assumes nothing.
+use Prim.Native.Nat.{ℕ}
+use mathlib.Core.Bool.{Bool, true, false, not, cond, _&&_, _||_}
+use mathlib.Core.List.{List, [], _∷_}
+use mathlib.Core.Path.{_≡_}
+use lib.Dec.{eqb}
+use lib.ListN.{length}
+use Rattle.tally.specs.Limits.{Limits, blankCode, logSize, imageSize, messageSize}
+use Rattle.tally.specs.Refusal.{numberOf}
+use Rattle.tally.specs.declared.Engine.{Engine}
+use Rattle.tally.specs.declared.Engine.the-variants.{B}
+use Rattle.tally.specs.declared.Refusal.{Refusal}
+use Rattle.contents.specs.Images.{fits}
+use Rattle.contents.specs.Logs.{numbersOk}
+use Rattle.contents.specs.declared.Image.{Image}
+use Rattle.contents.specs.declared.Kind.{Kind}
+use Rattle.contents.specs.declared.Kind.the-variants.{Empty, First, Check, Second, Skip}
+use Rattle.contents.specs.declared.Log.{Log}
+use Rattle.contents.specs.declared.Message.{Message}
+use Rattle.contents.specs.declared.Settings.{Settings}
+use Rattle.codec.specs.Codes.{engineOf, codeOf}
+use Rattle.codec.specs.Formats.{Reading, toBytes}
+use Rattle.codec.specs.Images.{readImage, imageBytes}
+use Rattle.codec.specs.Logs.{logFormat, readLog}
+use Rattle.codec.specs.Messages.{messageFormat, readMessage, emptyBytes, cleared}
+use Rattle.codec.specs.declared.EngineRead.{EngineRead}
+use Rattle.codec.specs.declared.EngineRead.the-variants.{Is, Unknown}
+use Rattle.consensus.specs.Deliver.{propose, deliver, keyOn, forOther, outOfRange, closesLast}
+use Rattle.consensus.specs.Rows.{Row, row, firstOf, Lowest}
+use Rattle.consensus.specs.Step.{fresh}
+use Rattle.consensus.specs.Units.{unitLog, unitImage, upUnit, downUnit}
+use Rattle.consensus.specs.declared.Unit as U
+
+-- what a call answers: its number, what the log, image and output buffers hold at exit, and the decision as it is stored
+pub record Called : Type 0 where
+  pub number : ℕ
+  pub log : List ℕ
+  pub image : List ℕ
+  pub out : List ℕ
+  pub decision : ℕ
+
+abbrev pub called : ℕ → List ℕ → List ℕ → List ℕ → ℕ → Called
+called k log image out d = record { number = k; log = log; image = image; out = out; decision = d }
+
+-- the first row that holds gives its number: log and image keep their bytes, an output buffer of a message's length is zeros,
+-- one of another length keeps its bytes, and no decision is given; where no row holds, the answer
+abbrev pub unlessRow : Limits → List Row → List ℕ → List ℕ → List ℕ → Called → Called
+unlessRow l rows log image out ok =
+    cond (eqb (numberOf (firstOf rows)) 0) ok (called (numberOf (firstOf rows)) log image (cleared l out) blankCode)
+
+-- ---- the conditions of the table's rows
+
+-- 1: a buffer's length is wrong
+abbrev pub wrongLength : List ℕ → ℕ → Bool
+wrongLength bs k = not (eqb (length bs) k)
+
+-- of what a unit has
+unfoldable pub unitLengths : Limits → List ℕ → List ℕ → Bool
+unitLengths l log image = wrongLength log (logSize l) || wrongLength image (imageSize l)
+
+-- bytes that reading refuses
+abbrev pub unread : {A : Type 0} → Reading A → Bool
+unread r = not (eqb (r .number) 0)
+
+-- 2: log malformed
+unfoldable pub badLog : Limits → List ℕ → Bool
+badLog l log = unread (readLog l log)
+
+-- 2: fresh-unit settings out of range; an unknown engine letter is
+unfoldable pub badSettings : EngineRead → ℕ → ℕ → ℕ → Bool
+badSettings Unknown n unit entry = true
+badSettings (Is g) n unit entry = not (numbersOk n unit entry)
+
+-- 3: image malformed or not fitting
+unfoldable pub badImage : Limits → List ℕ → List ℕ → Bool
+badImage l log image = not (eqb (readImage l image .number) 0 && fits (readImage l image .contents) (readLog l log .contents))
+
+-- 4: message malformed
+unfoldable pub badMessage : Limits → List ℕ → Bool
+badMessage l message = unread (readMessage l message)
+
+-- ---- the bytes that a call writes
+
+unfoldable pub logBytes : Limits → Log → List ℕ
+logBytes l r = toBytes (logFormat l) r
+
+-- an empty message is zeros
+unfoldable pub messageBytes : Limits → Kind → Message → List ℕ
+messageBytes l Empty m = emptyBytes l
+messageBytes l First m = toBytes (messageFormat l) m
+messageBytes l Check m = toBytes (messageFormat l) m
+messageBytes l Second m = toBytes (messageFormat l) m
+messageBytes l Skip m = toBytes (messageFormat l) m
+
+-- the up unit that a log and an image hold
+abbrev pub unitOf : Limits → List ℕ → List ℕ → U.Unit
+unitOf l log image = upUnit (readLog l log .contents) (readImage l image .contents)
+
+-- ---- the calls
+
+-- B stands in the place of an engine that is not known
+abbrev pub settingsFor : EngineRead → ℕ → ℕ → ℕ → Settings
+settingsFor Unknown n unit entry = record { engine = B; n = n; unit = unit; entry = entry }
+settingsFor (Is g) n unit entry = record { engine = g; n = n; unit = unit; entry = entry }
+
+unfoldable pub startCallRows : Limits → ℕ → ℕ → ℕ → ℕ → List ℕ → List ℕ → List Row
+startCallRows l engine n unit entry log image =
+    row Refusal.Length (unitLengths l log image)
+    ∷ row Refusal.Log (badSettings (engineOf engine) n unit entry)
+    ∷ []
+
+-- starting a unit writes its log and its image, and reads neither; the engine is its letter's number
+unfoldable pub startCall : Limits → ℕ → ℕ → ℕ → ℕ → List ℕ → List ℕ → Called
+startCall l engine n unit entry log image =
+    unlessRow l (startCallRows l engine n unit entry log image) log image []
+    (let u = fresh (settingsFor (engineOf engine) n unit entry) in called 0 (logBytes l (unitLog u)) (imageBytes l (unitImage u)) [] blankCode)
+
+unfoldable pub keyOnCallRows : Limits → List ℕ → List ℕ → List Row
+keyOnCallRows l log image =
+    row Refusal.Length (unitLengths l log image)
+    ∷ row Refusal.Log (badLog l log)
+    ∷ []
+
+-- key-on writes the image alone and does not read what it held
+unfoldable pub keyOnCall : Limits → List ℕ → List ℕ → Called
+keyOnCall l log image =
+    unlessRow l (keyOnCallRows l log image) log image []
+    (called 0 log (imageBytes l (unitImage (keyOn (downUnit (readLog l log .contents)) .unit))) [] blankCode)
+
+unfoldable pub proposeCallRows : Limits → List ℕ → List ℕ → ℕ → List ℕ → List Row
+proposeCallRows l log image mileage out =
+    row Refusal.Length (unitLengths l log image || wrongLength out (messageSize l))
+    ∷ row Refusal.Log (badLog l log)
+    ∷ row Refusal.Image (badImage l log image)
+    ∷ row Refusal.Mileage (outOfRange l mileage)
+    ∷ []
+
+-- no log write
+unfoldable pub proposeCall : Limits → List ℕ → List ℕ → ℕ → List ℕ → Called
+proposeCall l log image mileage out =
+    unlessRow l (proposeCallRows l log image mileage out) log image out
+    (let a = propose l (unitOf l log image) mileage in
+    called 0 log (imageBytes l (unitImage (a .unit))) (messageBytes l (a .message .kind) (a .message)) blankCode)
+
+unfoldable pub deliverCallRows : Limits → List ℕ → List ℕ → List ℕ → List ℕ → List Row
+deliverCallRows l log image message out =
+    row Refusal.Length (unitLengths l log image || wrongLength message (messageSize l) || wrongLength out (messageSize l))
+    ∷ row Refusal.Log (badLog l log)
+    ∷ row Refusal.Image (badImage l log image)
+    ∷ row Refusal.Message (badMessage l message)
+    ∷ row Refusal.Addressee (forOther (readLog l log .contents .settings) (readMessage l message .contents))
+    ∷ row Refusal.LastRound (closesLast l (unitOf l log image) (readMessage l message .contents))
+    ∷ []
+
+unfoldable pub deliverCall : Limits → List ℕ → List ℕ → List ℕ → List ℕ → Called
+deliverCall l log image message out =
+    unlessRow l (deliverCallRows l log image message out) log image out
+    (let a = deliver l (unitOf l log image) (readMessage l message .contents) in
+    called 0 (logBytes l (unitLog (a .unit))) (imageBytes l (unitImage (a .unit))) (messageBytes l (a .message .kind) (a .message)) (codeOf (a .decision)))
+
+-- one theorem a call: the number is 0 exactly where no row's condition holds, and else the lowest of a row that does; after a refusal log and
+-- image keep their bytes, an output buffer of a message's length is zeros, one of another length keeps its bytes, and the decision is blank
+pub record Refusing (l : Limits) (rows : List Row) (log image out : List ℕ) (c : Called) : Type 0 where
+  pub number : Lowest rows (c .number)
+  pub refused : (c .number ≡ 0 → ⊥) → c ≡ called (c .number) log image (cleared l out) blankCode
