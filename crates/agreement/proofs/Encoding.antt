@@ -97,7 +97,7 @@ module _ (l : Limits) (n : ℕ) (b : Bytes) (w : Contents) (enc : Encodes l n b 
           go false e = enc .units v h
 
   -- the unit has the same bytes as before
-  encodes-same : (x : Station) → (u < n → x ≡ station l (w .units u)) → Encodes l n (change b u x) w
+  pub encodes-same : (x : Station) → (u < n → x ≡ station l (w .units u)) → Encodes l n (change b u x) w
   encodes-same x same = record { units = both; sent = enc .sent; proposed = enc .proposed; decided = enc .decided }
     where
       both : (v : ℕ) → v < n → put (b .units) u x v ≡ station l (w .units v)
@@ -228,7 +228,7 @@ module _ (l : Limits) (sane : Sane l) (n : ℕ) (b : Bytes) (w : Contents) (enc 
   image = imageBytes l (unitImage (w .units u))
 
   module _ (on : w .units u .power ≡ Up) (out : List ℕ) where
-    on-proposal : (v : ℕ) → Follows l n (B.afterProposal b u v (proposeCall l log image v out)) w
+    pub on-proposal : (v : ℕ) → Follows l n (B.afterProposal b u v (proposeCall l log image v out)) w
     unfolding proposeCallRows C.step C.apply
     on-proposal v =
         follow l n w (proposeCallRows l log image v out) log image out (proposeCall l log image v out) (propose-refusing l log image v out) a
@@ -259,7 +259,7 @@ module _ (l : Limits) (sane : Sane l) (n : ℕ) (b : Bytes) (w : Contents) (enc 
           (refused (deliverCall l log image (sentBytes l m) out))
 
       module _ (k : ℕ) (there : getElem? (w .sent) k ≡ some m) where
-        on-delivery : Follows l n (B.after b u (m .round) (deliverCall l log image (sentBytes l m) out)) w
+        pub on-delivery : Follows l n (B.after b u (m .round) (deliverCall l log image (sentBytes l m) out)) w
         unfolding C.step C.apply C.delivered
         on-delivery =
             on-message (B.after b u (m .round)) (C.delivery u k)
@@ -267,7 +267,7 @@ module _ (l : Limits) (sane : Sane l) (n : ℕ) (b : Bytes) (w : Contents) (enc 
             (encodes-after l sane n b w enc u a up known number (m .round))))
             (λ c kept. refused-after l sane n b w enc u on c kept (m .round))
 
-        on-cut : Follows l n (B.afterCut b u (deliverCall l log image (sentBytes l m) out)) w
+        pub on-cut : Follows l n (B.afterCut b u (deliverCall l log image (sentBytes l m) out)) w
         unfolding C.step C.apply C.deliveredCut
         on-cut =
             on-message (B.afterCut b u) (C.cut u k)
@@ -276,7 +276,7 @@ module _ (l : Limits) (sane : Sane l) (n : ℕ) (b : Bytes) (w : Contents) (enc 
             (λ c kept. refused-cut l sane n b w enc u on c kept)
 
   -- key-off, of a unit up or down
-  on-off : Follows l n (change b u (down (b .units u .log))) w
+  pub on-off : Follows l n (change b u (down (b .units u .log))) w
   unfolding C.step C.apply D.keyOff D.unless firstOf downUnit atLog
   on-off = inr (C.off u, rw (lt-ltb u n below) (encodes-change l n b w enc u _ _ (λ h. rw (enc .units u below) (go (w .units u .power) refl))))
     where
@@ -285,7 +285,7 @@ module _ (l : Limits) (sane : Sane l) (n : ℕ) (b : Bytes) (w : Contents) (enc 
       go Down e = rw e
 
   -- key-on of a down unit, whatever the image buffer held
-  on-key : w .units u .power ≡ Down → (buffer : List ℕ) → Follows l n (B.afterKeyOn b u (keyOnCall l log buffer)) w
+  pub on-key : w .units u .power ≡ Down → (buffer : List ℕ) → Follows l n (B.afterKeyOn b u (keyOnCall l log buffer)) w
   unfolding B.afterKeyOn C.step C.apply keyOnCallRows unitLengths D.keyOn D.unless firstOf downUnit atLog recovered
   on-key off buffer = go (eqb (keyOnCall l log buffer .number) 0) refl
     where
@@ -293,6 +293,9 @@ module _ (l : Limits) (sane : Sane l) (n : ℕ) (b : Bytes) (w : Contents) (enc 
       go true e =
           let none = key-on-refusing l log buffer .number .accepted (eqb-true (keyOnCall l log buffer .number) 0 e) in
           let size = or-length (wrongLength log (logSize l)) buffer (imageSize l) (none .0) in
-          inr (C.on u, rw (key-on-encoded l sane (unitLog (w .units u)) buffer (valid .units u below .log) size, lt-ltb u n below)
-          (encodes-change l n b w enc u _ _ (λ h. rw off)))
+          inr (
+            C.on u,
+            rw (key-on-encoded l sane (unitLog (w .units u)) buffer (valid .units u below .log) size, lt-ltb u n below)
+                (encodes-change l n b w enc u _ _ (λ h. rw off)),
+          )
       go false e = inl enc

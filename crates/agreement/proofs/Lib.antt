@@ -1,2 +1,11 @@
+pub mod Votes
+pub mod Invariant
+pub mod Closing
+pub mod Good
+pub mod Changed
+pub mod History
 pub mod Encoding
+pub mod Refused
+pub mod Follows
+pub mod Theorem
 pub mod Listing

@@ -1,0 +1,303 @@
+-- The invariant holds over every history, and demand 3 over contents with it. Assumes nothing.
+use Prim.Native.Nat.{ℕ, zero, suc, _<_}
+use mathlib.Core.Path.{_≡_, refl, sym, ap, subst, _∙_}
+use mathlib.Core.Bool.{Bool, true, false, cond}
+use mathlib.Core.List.{List, [], _∷_, _++_, append-nil, append-cancel-left, List·Memᴰ, List·Memᴰ·head, List·Memᴰ·tail, List·Memᴰ·not-nil}
+use mathlib.Core.List.{Memᴰ·append-left, Memᴰ·append-right, List·Memᴰ·append-cases, List·Memᴰ·eq-of-singleton}
+use mathlib.Core.Logic.{_⊎_, inl, inr}
+use mathlib.Core.Option.{Option, none, some}
+use native.Mathlib.Omega.{arith}
+use borrow.Author.Tests.{ltb-true}
+use lib.Dec.{ltb}
+use lib.ListN.{getElem?}
+use Rattle.tally.specs.Limits.{Limits}
+use Rattle.tally.specs.declared.Estimate.{Estimate}
+use Rattle.tally.specs.declared.Estimate.the-variants.{Blank, Split, Mileage}
+use Rattle.tally.proofs.Never.{never}
+use Rattle.contents.specs.Logs.{settingsOk}
+use Rattle.contents.specs.declared.Kind.{Kind}
+use Rattle.contents.specs.declared.Kind.the-variants.{Empty, First, Check, Second, Skip}
+use Rattle.contents.specs.declared.Message.{Message}
+use Rattle.consensus.specs.Deliver.{propose, deliver, keyOff, keyOn}
+use Rattle.consensus.specs.Sound.{From, Sound}
+use Rattle.consensus.specs.Step.{silence, fresh, proposed}
+use Rattle.consensus.specs.Units.{WellFormed, atLog}
+use Rattle.consensus.specs.declared.Answer.{Answer}
+use Rattle.consensus.specs.declared.Unit as U
+use Rattle.agreement.specs.Contents.{Contents, Event, proposal, delivery, cut, off, on, eventUnit, begun, unlessEmpty, accepted, after, afterCut}
+use Rattle.agreement.specs.Contents.{afterProposal, delivered, deliveredCut, apply, step, AgreedContents}
+use Rattle.agreement.specs.Worlds.{Setup, settingsOf, Proposal, Decision, put, change, keep, report, decision, run, Given}
+use Rattle.consensus.proofs.Answers.{propose-keeps}
+use Rattle.consensus.proofs.Soundness.{sound-propose, sound-deliver, sound-key-off, sound-key-on, well-fresh}
+use Rattle.agreement.proofs.Votes.{Of, of-map, Sure, Chosen}
+use Rattle.agreement.proofs.Invariant.{Member, Invariant, locked-at, agreement, fair-up}
+use Rattle.agreement.proofs.Changed.{New, changed}
+use Rattle.agreement.proofs.Good.{Good, fair-none, good-off, good-on, good-propose, good-deliver}
+
+-- mileages that accepted proposal events gave
+abbrev pub Proposed : List Proposal → ℕ → Type 0
+Proposed ps v = (b : ℕ) × List·Memᴰ (record { unit = b; mileage = v }) ps
+
+abbrev pub Inv : Limits → Setup → Contents → Type 0
+Inv l c w = Invariant l c (λ m. List·Memᴰ m (w .sent)) (Proposed (w .proposed)) (λ d. List·Memᴰ d (w .decided)) (w .units)
+
+-- a fact of what there is, if any
+abbrev When : {A : Type 0} → (A → Type 0) → Option A → Type 0
+When P none = Unit
+When P (some a) = P a
+
+-- one more, if any
+abbrev added : {A : Type 0} → List A → Option A → List A
+added xs none = xs
+added xs (some a) = xs ++ (a ∷ [])
+
+module _ {A : Type 0} where
+  added-up : (xs : List A) (o : Option A) (a : A) → List·Memᴰ a xs → List·Memᴰ a (added xs o)
+  added-up xs none a h = h
+  added-up xs (some b) a h = Memᴰ·append-left (b ∷ []) h
+
+  added-back : (P : A → Type 0) (xs : List A) (o : Option A) → When P o → (a : A) → List·Memᴰ a (added xs o) → List·Memᴰ a xs ⊎ P a
+  added-back P xs none p a h = inl h
+  added-back P xs (some b) p a h = go (List·Memᴰ·append-cases xs h)
+    where
+      go : List·Memᴰ a xs ⊎ List·Memᴰ a (b ∷ []) → List·Memᴰ a xs ⊎ P a
+      go (inl m) = inl m
+      go (inr m) = inr (subst P (sym (List·Memᴰ·eq-of-singleton m)) p)
+
+  added-last : (P : A → Type 0) (xs : List A) (o : Option A) (a : A) → added xs o ≡ xs ++ (a ∷ []) → When P o → P a
+  added-last P xs none a e p = let q : [] ≡ a ∷ [] = append-cancel-left xs [] (a ∷ []) (append-nil xs ∙ e) in never cc
+  added-last P xs (some b) a e p = let q : b ∷ [] ≡ a ∷ [] = append-cancel-left xs (b ∷ []) (a ∷ []) e in let r : b ≡ a = cc in subst P r p
+
+  -- what is found at a place is in the list
+  at-place : (P : Option A → Type 0) (xs : List A) → P none → ((a : A) → List·Memᴰ a xs → P (some a)) → (k : ℕ) → P (getElem? xs k)
+  at-place P [] p f k = p
+  at-place P (x ∷ xs) p f zero = f x (List·Memᴰ·head refl)
+  at-place P (x ∷ xs) p f (suc k) = at-place P xs p (λ a h. f a (List·Memᴰ·tail h)) k
+
+-- a message sent is not empty
+when-sent : (P : Message → Type 0) (k : Kind) (m : Message) → ((k ≡ Empty → ⊥) → P m) → When P (unlessEmpty k m)
+when-sent P Empty m f = tt
+when-sent P First m f = f (λ e. never cc)
+when-sent P Check m f = f (λ e. never cc)
+when-sent P Second m f = f (λ e. never cc)
+when-sent P Skip m f = f (λ e. never cc)
+
+when-decided : (P : Decision → Type 0) (u r : ℕ) (e : Estimate) → Of (λ v. P (record { unit = u; round = r; mileage = v })) e → When P (decision u r e)
+when-decided P u r Blank h = tt
+when-decided P u r Split h = tt
+when-decided P u r (Mileage v) h = h
+
+-- the world after an answer, field by field
+abbrev answered : Contents → List Proposal → ℕ → ℕ → Answer → Contents
+answered w ps u r a =
+    record {
+      units = put (w .units) u (a .unit);
+      sent = added (w .sent) (unlessEmpty (a .message .kind) (a .message));
+      proposed = ps;
+      decided = added (w .decided) (decision u r (a .decision));
+    }
+
+after-is : (w : Contents) (u r : ℕ) (a : Answer) → after w u r a ≡ answered w (w .proposed) u r a
+unfolding after
+after-is w u r a = go (unlessEmpty (a .message .kind) (a .message)) (decision u r (a .decision))
+  where
+    go : (o : Option Message) (d : Option Decision) → report (keep (change w u (a .unit)) o) d
+        ≡ record { units = put (w .units) u (a .unit); sent = added (w .sent) o; proposed = w .proposed; decided = added (w .decided) d }
+    go none none = refl
+    go none (some d) = refl
+    go (some m) none = refl
+    go (some m) (some d) = refl
+
+-- ---- the events
+
+-- an event leads from w to w′: the invariant holds there, and what it reported was proposed before
+record Next (l : Limits) (c : Setup) (w w′ : Contents) : Type 0 where
+  inv : Inv l c w′
+  decision : Option Decision
+  last : w′ .decided ≡ added (w .decided) decision
+  given : When (λ d. Proposed (w .proposed) (d .mileage)) decision
+
+module _ (l : Limits) (c : Setup) (w : Contents) (inv : Inv l c w) where
+  same : Next l c w w
+  same = record { inv = inv; decision = none; last = refl; given = tt }
+
+  -- an event that changes nothing unless b
+  if : (b : Bool) {w′ : Contents} → (b ≡ true → Next l c w w′) → Next l c w (cond b w′ w)
+  if true f = f refl
+  if false f = same
+
+  abbrev X : Message → Type 0
+  X m = List·Memᴰ m (w .sent)
+
+  abbrev A : ℕ → Type 0
+  A = Proposed (w .proposed)
+
+  module _ (u : ℕ) (here : Member l c X A u (w .units u)) where
+    -- an answer of the unit, which is y by then
+    module _ (C : ℕ → Type 0) (r : ℕ) (y : U.Unit) (settings : y .settings ≡ settingsOf c u) (a : Answer) (sound : Sound l y a)
+        (good : Good c X C u r a) where
+      member : Member l c X C u (a .unit)
+      member = record { well-formed = sound .unit; settings = sound .settings ∙ settings; fair = good .fair; kept = good .kept }
+
+      new : (a .message .kind ≡ Empty → ⊥) → New l c X C u (a .unit .logged) (a .message)
+      new n = let g = good .message n in record { from = go (sound .message); backed = g .0; stands = g .1 }
+        where
+          go : (a .message ≡ silence) ⊎ From l (y .settings) (a .message) → From l (settingsOf c u) (a .message)
+          go (inl e) = absurd (n (ap (λ m. m .kind) e))
+          go (inr f) = subst (λ s. From l s (a .message)) settings f
+
+    after-next : (ps : List Proposal) → ((v : ℕ) → A v → Proposed ps v) → (r : ℕ) (a : Answer) → Sound l (w .units u) a
+        → Good c X (Proposed ps) u r a → Of A (a .decision) → Next l c w (answered w ps u r a)
+    after-next ps more r a sound good given =
+        record {
+          inv =
+              changed l c (w .units) inv u (a .unit) (member C r (w .units u) (here .settings) a sound good) (added-up (w .sent) o) more
+              (added-back P (w .sent) o (when-sent P (a .message .kind) (a .message) (new C r (w .units u) (here .settings) a sound good)))
+              (added-back Q (w .decided) (decision u r (a .decision)) (when-decided Q u r (a .decision) (good .decision)));
+          decision = decision u r (a .decision);
+          last = refl;
+          given = when-decided (λ d. A (d .mileage)) u r (a .decision) given;
+        }
+      where
+        C : ℕ → Type 0
+        C = Proposed ps
+
+        o : Option Message
+        o = unlessEmpty (a .message .kind) (a .message)
+
+        P : Message → Type 0
+        P = New l c X C u (a .unit .logged)
+
+        Q : Decision → Type 0
+        Q d = Chosen c X C (d .round) (d .mileage)
+
+    -- nothing is sent or decided
+    change-next : (y : U.Unit) → y .settings ≡ settingsOf c u → (a : Answer) → Sound l y a → Good c X A u 0 a → Next l c w (change w u (a .unit))
+    change-next y settings a sound good =
+        record {
+          inv = changed l c (w .units) inv u (a .unit) (member A 0 y settings a sound good) (λ m h. h) (λ v h. h) (λ m h. inl h) (λ d h. inl h);
+          decision = none;
+          last = refl;
+          given = tt;
+        }
+
+    off-next : (y : U.Unit) → Member l c X A u y → Next l c w (change w u (keyOff y .unit))
+    off-next y i = change-next y (i .settings) (keyOff y) (sound-key-off l y (i .well-formed)) (good-off c X A u 0 y (i .fair) (i .kept))
+
+    on-next : (y : U.Unit) → Member l c X A u y → Next l c w (change w u (keyOn y .unit))
+    on-next y i = change-next y (i .settings) (keyOn y) (sound-key-on l y (i .well-formed)) (good-on c X A u 0 y (i .fair) (i .kept))
+
+    proposal-next : (v : ℕ) → Next l c w (afterProposal w u v (propose l (w .units u) v))
+    unfolding afterProposal
+    proposal-next v =
+        if (accepted a)
+        (λ h. rw (after-is w u 0 a)
+        (after-next (w .proposed ++ (p ∷ [])) more 0 a (sound-propose l (w .units u) v (here .well-formed))
+        (good-propose c X _ u 0 (w .units u) (fair-up c (λ m h. h) more (w .units u) (here .fair)) (here .kept) l v
+        (u, Memᴰ·append-right (w .proposed) (List·Memᴰ·head refl)))
+        (rw (propose-keeps l (w .units u) v .1) tt)))
+      where
+        a : Answer
+        a = propose l (w .units u) v
+
+        p : Proposal
+        p = record { unit = u; mileage = v }
+
+        more : (n : ℕ) → A n → Proposed (w .proposed ++ (p ∷ [])) n
+        more n h = (h .0, Memᴰ·append-left (p ∷ []) (h .1))
+
+    module _ (m : Message) (sent : X m) where
+      sound : Sound l (w .units u) (deliver l (w .units u) m)
+      sound = sound-deliver l (w .units u) m (here .well-formed)
+
+      good : Good c X A u (m .round) (deliver l (w .units u) m)
+      good = good-deliver l c X A (inv .sent) (inv .unique) u (w .units u) here m sent
+
+      delivery-next : Next l c w (after w u (m .round) (deliver l (w .units u) m))
+      delivery-next =
+          rw (after-is w u (m .round) (deliver l (w .units u) m))
+          (after-next (w .proposed) (λ v h. h) (m .round) (deliver l (w .units u) m) sound good
+          (of-map {F = Chosen c X A (m .round)} (λ v h. h .1) (deliver l (w .units u) m .decision) (good .decision)))
+
+      cut-next : Next l c w (afterCut w u (deliver l (w .units u) m))
+      unfolding afterCut
+      cut-next =
+          if (accepted (deliver l (w .units u) m))
+          (λ h. off-next (deliver l (w .units u) m .unit) (member A (m .round) (w .units u) (here .settings) _ sound good))
+
+  apply-next : (e : Event) → eventUnit e < c .n → Next l c w (apply l w e)
+  unfolding apply delivered deliveredCut
+  apply-next (proposal u v) b = proposal-next u (inv .units u b) v
+  apply-next (delivery u k) b = at-place (λ o. Next l c w (delivered l w u o)) (w .sent) same (delivery-next u (inv .units u b)) k
+  apply-next (cut u k) b = at-place (λ o. Next l c w (deliveredCut l w u o)) (w .sent) same (cut-next u (inv .units u b)) k
+  apply-next (off u) b = off-next u (inv .units u b) (w .units u) (inv .units u b)
+  apply-next (on u) b = on-next u (inv .units u b) (w .units u) (inv .units u b)
+
+  step-next : (e : Event) → Next l c w (step l (c .n) w e)
+  unfolding step
+  step-next e = if (ltb (eventUnit e) (c .n)) (λ h. apply-next e (ltb-true _ _ h))
+
+-- ---- the invariant over a history
+
+pub step-inv : (l : Limits) (c : Setup) (w : Contents) (e : Event) → Inv l c w → Inv l c (step l (c .n) w e)
+step-inv l c w e i = step-next l c w i e .inv
+
+pub run-inv : (l : Limits) (c : Setup) (w : Contents) (es : List Event) → Inv l c w → Inv l c (run (step l (c .n)) w es)
+unfolding run
+run-inv l c w [] inv = inv
+run-inv l c w (e ∷ es) inv = run-inv l c (step l (c .n) w e) es (step-inv l c w e inv)
+
+pub begun-inv : (l : Limits) (c : Setup) → ((u : ℕ) → u < c .n → settingsOk (settingsOf c u) ≡ true) → Inv l c (begun c)
+unfolding begun fresh atLog
+begun-inv l c ok =
+    record {
+      units = λ u b.
+          record {
+            well-formed = well-fresh l (settingsOf c u) (ok u b);
+            settings = refl;
+            fair = fair-none c _ _ _ refl refl sure sure;
+            kept = λ m h. absurd (List·Memᴰ·not-nil h);
+          };
+      sent = λ m h. absurd (List·Memᴰ·not-nil h);
+      unique = λ a b h. absurd (List·Memᴰ·not-nil h);
+      decided = λ d h. absurd (List·Memᴰ·not-nil h);
+    }
+  where
+    sure : Sure c (λ m. List·Memᴰ m []) (Proposed []) 0 Blank
+    sure = (λ r v h. absurd (omega arith), tt)
+
+-- ---- what the byte level reads of it
+
+module _ (l : Limits) (c : Setup) (w : Contents) (inv : Inv l c w) where
+  pub well-formed-unit : (u : ℕ) → u < c .n → WellFormed l (w .units u) × (w .units u .settings ≡ settingsOf c u)
+  well-formed-unit u b = let i = inv .units u b in (i .well-formed, i .settings)
+
+  -- a well-formed message of engine, n and entry as all units have them
+  pub from-unit : (m : Message) → List·Memᴰ m (w .sent) → From l (settingsOf c (m .sender)) m
+  from-unit m h = inv .sent m h .from
+
+-- ---- demand 3
+
+-- the mileage of a decision was given before the event that reports it
+pub step-proposed : (l : Limits) (c : Setup) (w : Contents) (e : Event) → Inv l c w → (d : Decision)
+    → step l (c .n) w e .decided ≡ w .decided ++ (d ∷ []) → Given (d .mileage) w
+step-proposed l c w e i d h =
+    let n = step-next l c w i e in
+    let g = added-last (λ d. Proposed (w .proposed) (d .mileage)) (w .decided) (n .decision) d (sym (n .last) ∙ h) (n .given) in
+    record { by = g .0; there = g .1 }
+
+pub agreed : (l : Limits) (c : Setup) (w : Contents) (es : List Event) → Inv l c w → AgreedContents l (c .n) w es
+agreed l c w es inv =
+    record {
+      same = agreement l c _ _ _ _ end;
+      proposed = λ before after e split d h. step-proposed l c (run (step l (c .n)) w before) e (run-inv l c w before inv) d h;
+      logs = λ u b s h d i. locked-at l c _ _ _ _ end d i s (rw h at (end .units u b .fair .logged));
+      images = λ u b s h d i. locked-at l c _ _ _ _ end d i s (rw (h .1) at (end .units u b .fair .current));
+    }
+  where
+    end : Inv l c (run (step l (c .n)) w es)
+    end = run-inv l c w es inv
+
+pub agreed-begun : (l : Limits) (c : Setup) → ((u : ℕ) → u < c .n → settingsOk (settingsOf c u) ≡ true) → (es : List Event)
+    → AgreedContents l (c .n) (begun c) es
+agreed-begun l c ok es = agreed l c (begun c) es (begun-inv l c ok)
