@@ -1,19 +1,15 @@
 -- A history over bytes is one over contents: the bytes of a world's units and messages, event by event. Assumes nothing.
 use Prim.Native.Nat.{ℕ, zero, suc, _%_, _<_}
-use mathlib.Core.Path.{_≡_, refl, sym, ap, ap₂, subst, _∙_}
-use mathlib.Core.Bool.{Bool, true, false, cond, not, _&&_, _||_}
-use mathlib.Core.List.{List, [], _∷_, _++_, map, List·Memᴰ, List·Memᴰ·head, List·Memᴰ·tail}
+use mathlib.Core.Path.{_≡_, refl, sym, ap, subst, _∙_}
+use mathlib.Core.Bool.{Bool, true, false, cond, _||_}
+use mathlib.Core.List.{List, [], _∷_, _++_, map, List·Memᴰ}
 use mathlib.Core.Logic.{_⊎_, inl, inr}
 use mathlib.Core.Option.{Option, none, some}
-use native.Mathlib.Decide.{decLt}
-use native.Mathlib.Omega.{arith}
-use lib.Dec.{eqb, ltb}
+use lib.Dec.{eqb}
 use lib.ListN.{length, getElem?, replicate}
-use borrow.Author.Tests.{eqb-true, eqb-false, eq-eqb, ne-eqb, ltb-true, lt-ltb, not-false}
-use Rattle.tally.specs.Limits.{Limits, Sane, blankCode, logSize, imageSize, messageSize}
+use borrow.Author.Tests.{eqb-true, eqb-false, eq-eqb, lt-ltb, not-false}
+use Rattle.tally.specs.Limits.{Limits, Sane, logSize, imageSize, messageSize}
 use Rattle.tally.specs.Refusal.{numberOf}
-use Rattle.tally.specs.declared.Estimate.{Estimate}
-use Rattle.tally.specs.declared.Refusal.{Refusal}
 use Rattle.tally.proofs.Never.{never}
 use Rattle.contents.specs.Estimates.{mileageOrBlank}
 use Rattle.contents.specs.Messages.{messageOk}
@@ -21,10 +17,10 @@ use Rattle.contents.specs.declared.Kind.{Kind}
 use Rattle.contents.specs.declared.Kind.the-variants.{Empty, First, Check, Second, Skip}
 use Rattle.contents.specs.declared.Message.{Message}
 use Rattle.contents.proofs.Facts.{known-or-blank}
-use Rattle.codec.specs.Codes.{kindLetter, codeOf, estimateOf}
+use Rattle.codec.specs.Codes.{kindLetter}
 use Rattle.codec.specs.Formats.{toBytes}
 use Rattle.codec.specs.Images.{imageBytes}
-use Rattle.codec.specs.Messages.{messageFormat, emptyBytes, cleared}
+use Rattle.codec.specs.Messages.{messageFormat}
 use Rattle.codec.specs.Numbers.{bytesOf}
 use Rattle.codec.proofs.Letters.{estimate-code}
 use Rattle.consensus.specs.Deliver as D
@@ -33,40 +29,41 @@ use Rattle.consensus.specs.Units.{WellFormed, unitLog, unitImage, downUnit, atL
 use Rattle.consensus.specs.declared.Answer.{Answer}
 use Rattle.consensus.specs.Step.{recovered}
 use Rattle.consensus.proofs.Soundness.{sound-propose, sound-deliver}
-use Rattle.consensus.proofs.Answers.{propose-power, deliver-power, propose-keeps}
+use Rattle.consensus.proofs.Answers.{propose-power, deliver-power}
 use Rattle.consensus.specs.declared.Power.{Power}
 use Rattle.consensus.specs.declared.Power.the-variants.{Down, Up}
 use Rattle.consensus.specs.declared.Unit as U
-use Rattle.mileage.specs.Calls.{Called, called, wrongLength, unitLengths, Refusing, logBytes, messageBytes, proposeCall, deliverCall, keyOnCall, proposeCallRows, deliverCallRows, keyOnCallRows}
-use Rattle.mileage.proofs.Encoded.{answered, read-log, read-image, read-message, propose-encoded, deliver-encoded, key-on-encoded, message-bytes}
-use Rattle.mileage.proofs.Rows.{propose-refusing, deliver-refusing, key-on-refusing, start-refusing}
+use Rattle.mileage.specs.Calls.{Called, wrongLength, unitLengths, Refusing, logBytes, messageBytes, proposeCall, deliverCall, keyOnCall, proposeCallRows}
+use Rattle.mileage.specs.Calls.{deliverCallRows, keyOnCallRows}
+use Rattle.mileage.proofs.Encoded.{answered, propose-encoded, deliver-encoded, key-on-encoded}
+use Rattle.mileage.proofs.Rows.{propose-refusing, deliver-refusing, key-on-refusing}
 use Rattle.agreement.specs.Bytes as B
-use Rattle.agreement.specs.Bytes.{Station, Bytes, up, down, unlessEmpty, allZero}
+use Rattle.agreement.specs.Bytes.{UnitBytes, ByteWorld, up, down, unlessEmpty, allZero}
 use Rattle.agreement.specs.Contents as C
-use Rattle.agreement.specs.Contents.{Contents}
-use Rattle.agreement.specs.Worlds.{World, put, change, keep, report, give, decision, Decision, Proposal}
+use Rattle.agreement.specs.Contents.{ContentsWorld}
+use Rattle.agreement.specs.Worlds.{put, change, keep, report, give, decision, Decision, Proposal}
 
 -- the bytes of a unit: an image only while it is up
-abbrev pub stationAt : Limits → Power → U.Unit → Station
-stationAt l Up x = up (logBytes l (unitLog x)) (imageBytes l (unitImage x))
-stationAt l Down x = down (logBytes l (unitLog x))
+abbrev pub unitBytesAt : Limits → Power → U.Unit → UnitBytes
+unitBytesAt l Up x = up (logBytes l (unitLog x)) (imageBytes l (unitImage x))
+unitBytesAt l Down x = down (logBytes l (unitLog x))
 
-abbrev pub station : Limits → U.Unit → Station
-station l x = stationAt l (x .power) x
+abbrev pub unitBytes : Limits → U.Unit → UnitBytes
+unitBytes l x = unitBytesAt l (x .power) x
 
 -- the bytes of a message that is not empty
 abbrev pub sentBytes : Limits → Message → List ℕ
 sentBytes l m = toBytes (messageFormat l) m
 
 -- the world b has the bytes of the world w
-pub record Encodes (l : Limits) (n : ℕ) (b : Bytes) (w : Contents) : Type 0 where
-  pub units : (u : ℕ) → u < n → b .units u ≡ station l (w .units u)
+pub record Encodes (l : Limits) (n : ℕ) (b : ByteWorld) (w : ContentsWorld) : Type 0 where
+  pub units : (u : ℕ) → u < n → b .units u ≡ unitBytes l (w .units u)
   pub sent : b .sent ≡ map (sentBytes l) (w .sent)
   pub proposed : b .proposed ≡ w .proposed
   pub decided : b .decided ≡ w .decided
 
 -- what it takes that these bytes are read back
-pub record Valid (l : Limits) (n : ℕ) (w : Contents) : Type 0 where
+pub record Valid (l : Limits) (n : ℕ) (w : ContentsWorld) : Type 0 where
   pub units : (u : ℕ) → u < n → WellFormed l (w .units u)
   pub sent : (m : Message) → List·Memᴰ m (w .sent) → messageOk l m ≡ true
 
@@ -84,26 +81,26 @@ module _ {U : Type 0} (f : ℕ → U) (u : ℕ) (x : U) where
       go true e = subst (λ z. P z x) (sym (eqb-true v u e)) here
       go false e = there v
 
-module _ (l : Limits) (n : ℕ) (b : Bytes) (w : Contents) (enc : Encodes l n b w) (u : ℕ) where
+module _ (l : Limits) (n : ℕ) (b : ByteWorld) (w : ContentsWorld) (enc : Encodes l n b w) (u : ℕ) where
   -- the unit is replaced in both
-  encodes-change : (x : Station) (y : U.Unit) → (u < n → x ≡ station l y) → Encodes l n (change b u x) (change w u y)
+  encodes-change : (x : UnitBytes) (y : U.Unit) → (u < n → x ≡ unitBytes l y) → Encodes l n (change b u x) (change w u y)
   encodes-change x y same = record { units = both; sent = enc .sent; proposed = enc .proposed; decided = enc .decided }
     where
-      both : (v : ℕ) → v < n → put (b .units) u x v ≡ station l (put (w .units) u y v)
+      both : (v : ℕ) → v < n → put (b .units) u x v ≡ unitBytes l (put (w .units) u y v)
       both v h = go (eqb v u) refl
         where
-          go : (t : Bool) → eqb v u ≡ t → cond t x (b .units v) ≡ station l (cond t y (w .units v))
+          go : (t : Bool) → eqb v u ≡ t → cond t x (b .units v) ≡ unitBytes l (cond t y (w .units v))
           go true e = same (subst (λ z. z < n) (eqb-true v u e) h)
           go false e = enc .units v h
 
   -- the unit has the same bytes as before
-  pub encodes-same : (x : Station) → (u < n → x ≡ station l (w .units u)) → Encodes l n (change b u x) w
+  pub encodes-same : (x : UnitBytes) → (u < n → x ≡ unitBytes l (w .units u)) → Encodes l n (change b u x) w
   encodes-same x same = record { units = both; sent = enc .sent; proposed = enc .proposed; decided = enc .decided }
     where
-      both : (v : ℕ) → v < n → put (b .units) u x v ≡ station l (w .units v)
+      both : (v : ℕ) → v < n → put (b .units) u x v ≡ unitBytes l (w .units v)
       both v h = go (eqb v u) refl
         where
-          go : (t : Bool) → eqb v u ≡ t → cond t x (b .units v) ≡ station l (w .units v)
+          go : (t : Bool) → eqb v u ≡ t → cond t x (b .units v) ≡ unitBytes l (w .units v)
           go true e = let q = eqb-true v u e in rw q (same (subst (λ z. z < n) q h))
           go false e = enc .units v h
 
@@ -118,7 +115,7 @@ letter-first : (l : Limits) (m : Message) → eqb (kindLetter (m .kind) % 256) 0
 unfolding bytesOf
 letter-first l m letter = rw letter
 
-module _ (l : Limits) (n : ℕ) (b : Bytes) (w : Contents) (enc : Encodes l n b w) where
+module _ (l : Limits) (n : ℕ) (b : ByteWorld) (w : ContentsWorld) (enc : Encodes l n b w) where
   map-snoc : (ms : List Message) (m : Message) → map (sentBytes l) (ms ++ (m ∷ [])) ≡ map (sentBytes l) ms ++ (sentBytes l m ∷ [])
   map-snoc [] m = refl
   map-snoc (x ∷ ms) m = ap (_∷_ (sentBytes l x)) (map-snoc ms m)
@@ -126,7 +123,12 @@ module _ (l : Limits) (n : ℕ) (b : Bytes) (w : Contents) (enc : Encodes l n b 
   encodes-sent : (m : Message) → eqb (kindLetter (m .kind) % 256) 0 ≡ false → Encodes l n (keep b (unlessEmpty (sentBytes l m))) (keep w (some m))
   encodes-sent m letter =
       rw (letter-first l m letter)
-      (record { units = enc .units; sent = ap (λ ms. ms ++ (sentBytes l m ∷ [])) (enc .sent) ∙ sym (map-snoc (w .sent) m); proposed = enc .proposed; decided = enc .decided })
+      (record {
+        units = enc .units;
+        sent = ap (λ ms. ms ++ (sentBytes l m ∷ [])) (enc .sent) ∙ sym (map-snoc (w .sent) m);
+        proposed = enc .proposed;
+        decided = enc .decided;
+      })
 
   encodes-keep : (k : Kind) (m : Message) → m .kind ≡ k → Encodes l n (keep b (unlessEmpty (messageBytes l k m))) (keep w (C.unlessEmpty k m))
   unfolding messageBytes
@@ -152,7 +154,7 @@ or-length true bs k h = never (sym h)
 or-length false bs k h = eqb-true (length bs) k (not-false (eqb (length bs) k) h)
 
 -- after an event the world has the bytes of the same contents, or of those after an event of theirs
-abbrev pub Follows : Limits → ℕ → Bytes → Contents → Type 0
+abbrev pub Follows : Limits → ℕ → ByteWorld → ContentsWorld → Type 0
 Follows l n b w = Encodes l n b w ⊎ ((e : C.Event) × Encodes l n b (C.step l n w e))
 
 -- a refused call leaves log and image as they were
@@ -167,7 +169,7 @@ unchanged l rows log image out c r e =
     let same = r .refused (eqb-false (c .number) 0 e) in
     record { number = e; log = ap (λ (x : Called). x .log) same; image = ap (λ (x : Called). x .image) same }
 
-module _ (l : Limits) (sane : Sane l) (n : ℕ) (b : Bytes) (w : Contents) (enc : Encodes l n b w) (u : ℕ) where
+module _ (l : Limits) (sane : Sane l) (n : ℕ) (b : ByteWorld) (w : ContentsWorld) (enc : Encodes l n b w) (u : ℕ) where
   -- what an accepted step answered is what the call did, as bytes
   module _ (a : Answer) (on : a .unit .power ≡ Up) (known : mileageOrBlank l (a .decision) ≡ true) (number : numberOf (a .refusal) ≡ 0) where
     encodes-after : (r : ℕ) → Encodes l n (B.after b u r (answered l a)) (C.after w u r a)
@@ -205,9 +207,11 @@ module _ (l : Limits) (sane : Sane l) (n : ℕ) (b : Bytes) (w : Contents) (enc 
     refused-cut = rw (kept .number) encodes-up
 
 -- a call, accepted or refused, and what an event makes of its answer
-module _ (l : Limits) (n : ℕ) (w : Contents) (rows : List Row) (log image out : List ℕ) (c : Called) (law : Refusing l rows log image out c) (a : Answer)
-    (same : NoneHolds rows → c ≡ answered l a) (f : Called → Bytes) where
-  follow : (e : C.Event) → (numberOf (a .refusal) ≡ 0 → Encodes l n (f (answered l a)) (C.step l n w e)) → (Unchanged log image c → Encodes l n (f c) w)
+module _ (l : Limits) (n : ℕ) (w : ContentsWorld) (rows : List Row) (log image out : List ℕ) (c : Called)
+    (law : Refusing l rows log image out c) (a : Answer)
+    (same : NoneHolds rows → c ≡ answered l a) (f : Called → ByteWorld) where
+  follow : (e : C.Event) → (numberOf (a .refusal) ≡ 0 → Encodes l n (f (answered l a)) (C.step l n w e))
+      → (Unchanged log image c → Encodes l n (f c) w)
       → Follows l n (f c) w
   follow e accepted refused = go (eqb (c .number) 0) refl
     where
@@ -220,7 +224,8 @@ module _ (l : Limits) (n : ℕ) (w : Contents) (rows : List Row) (log image out 
           )
       go false h = inl (refused (unchanged l rows log image out c law h))
 
-module _ (l : Limits) (sane : Sane l) (n : ℕ) (b : Bytes) (w : Contents) (enc : Encodes l n b w) (valid : Valid l n w) (u : ℕ) (below : u < n) where
+module _ (l : Limits) (sane : Sane l) (n : ℕ) (b : ByteWorld) (w : ContentsWorld) (enc : Encodes l n b w) (valid : Valid l n w)
+    (u : ℕ) (below : u < n) where
   abbrev log : List ℕ
   log = logBytes l (unitLog (w .units u))
 
@@ -234,7 +239,10 @@ module _ (l : Limits) (sane : Sane l) (n : ℕ) (b : Bytes) (w : Contents) (enc 
         follow l n w (proposeCallRows l log image v out) log image out (proposeCall l log image v out) (propose-refusing l log image v out) a
         (λ none. propose-encoded l sane (w .units u) (valid .units u below) on v out (or-length (unitLengths l log image) out (messageSize l) (none .0)))
         (B.afterProposal b u v) (C.proposal u v)
-        (λ zero-number. rw (lt-ltb u n below) (encodes-proposal l sane n b w enc u a (propose-power l (w .units u) v ∙ on) (sound-propose l (w .units u) v (valid .units u below) .decision) zero-number v))
+        (λ number.
+        rw (lt-ltb u n below)
+        (encodes-proposal l sane n b w enc u a (propose-power l (w .units u) v ∙ on)
+        (sound-propose l (w .units u) v (valid .units u below) .decision) number v))
         (λ kept. refused-proposal l sane n b w enc u on (proposeCall l log image v out) kept v)
       where
         a : Answer
@@ -242,8 +250,9 @@ module _ (l : Limits) (sane : Sane l) (n : ℕ) (b : Bytes) (w : Contents) (enc 
 
     module _ (m : Message) (ok : messageOk l m ≡ true) where
       -- a delivery or a cut of it, as f makes of the call's answer and e is of contents
-      on-message : (f : Called → Bytes) (e : C.Event)
-          → ((a : Answer) → a ≡ D.deliver l (w .units u) m → a .unit .power ≡ Up → mileageOrBlank l (a .decision) ≡ true → numberOf (a .refusal) ≡ 0
+      on-message : (f : Called → ByteWorld) (e : C.Event)
+          → ((a : Answer) → a ≡ D.deliver l (w .units u) m → a .unit .power ≡ Up → mileageOrBlank l (a .decision) ≡ true
+          → numberOf (a .refusal) ≡ 0
           → Encodes l n (f (answered l a)) (C.step l n w e))
           → ((c : Called) → Unchanged log image c → Encodes l n (f c) w)
           → Follows l n (f (deliverCall l log image (sentBytes l m) out)) w
@@ -260,15 +269,16 @@ module _ (l : Limits) (sane : Sane l) (n : ℕ) (b : Bytes) (w : Contents) (enc 
 
       module _ (k : ℕ) (there : getElem? (w .sent) k ≡ some m) where
         pub on-delivery : Follows l n (B.after b u (m .round) (deliverCall l log image (sentBytes l m) out)) w
-        unfolding C.step C.apply C.delivered
+        unfolding C.step C.apply C.delivering
         on-delivery =
             on-message (B.after b u (m .round)) (C.delivery u k)
-            (λ a same up known number. rw (lt-ltb u n below, there) (subst (λ z. Encodes l n (B.after b u (m .round) (answered l a)) (C.after w u (m .round) z)) same
+            (λ a same up known number. rw (lt-ltb u n below, there)
+            (subst (λ z. Encodes l n (B.after b u (m .round) (answered l a)) (C.after w u (m .round) z)) same
             (encodes-after l sane n b w enc u a up known number (m .round))))
             (λ c kept. refused-after l sane n b w enc u on c kept (m .round))
 
         pub on-cut : Follows l n (B.afterCut b u (deliverCall l log image (sentBytes l m) out)) w
-        unfolding C.step C.apply C.deliveredCut
+        unfolding C.step C.apply C.delivering
         on-cut =
             on-message (B.afterCut b u) (C.cut u k)
             (λ a same up known number. rw (lt-ltb u n below, there) (subst (λ z. Encodes l n (B.afterCut b u (answered l a)) (C.afterCut w u z)) same
@@ -280,7 +290,7 @@ module _ (l : Limits) (sane : Sane l) (n : ℕ) (b : Bytes) (w : Contents) (enc 
   unfolding C.step C.apply D.keyOff D.unless firstOf downUnit atLog
   on-off = inr (C.off u, rw (lt-ltb u n below) (encodes-change l n b w enc u _ _ (λ h. rw (enc .units u below) (go (w .units u .power) refl))))
     where
-      go : (p : Power) → w .units u .power ≡ p → down (stationAt l p (w .units u) .log) ≡ station l (D.keyOff (w .units u) .unit)
+      go : (p : Power) → w .units u .power ≡ p → down (unitBytesAt l p (w .units u) .log) ≡ unitBytes l (D.keyOff (w .units u) .unit)
       go Up e = rw e
       go Down e = rw e
 
@@ -289,7 +299,8 @@ module _ (l : Limits) (sane : Sane l) (n : ℕ) (b : Bytes) (w : Contents) (enc 
   unfolding B.afterKeyOn C.step C.apply keyOnCallRows unitLengths D.keyOn D.unless firstOf downUnit atLog recovered
   on-key off buffer = go (eqb (keyOnCall l log buffer .number) 0) refl
     where
-      go : (t : Bool) → eqb (keyOnCall l log buffer .number) 0 ≡ t → Follows l n (cond t (change b u (up (keyOnCall l log buffer .log) (keyOnCall l log buffer .image))) b) w
+      go : (t : Bool) → eqb (keyOnCall l log buffer .number) 0 ≡ t
+          → Follows l n (cond t (change b u (up (keyOnCall l log buffer .log) (keyOnCall l log buffer .image))) b) w
       go true e =
           let none = key-on-refusing l log buffer .number .accepted (eqb-true (keyOnCall l log buffer .number) 0 e) in
           let size = or-length (wrongLength log (logSize l)) buffer (imageSize l) (none .0) in

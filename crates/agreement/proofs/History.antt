@@ -24,8 +24,8 @@ use Rattle.consensus.specs.Step.{silence, fresh, proposed}
 use Rattle.consensus.specs.Units.{WellFormed, atLog}
 use Rattle.consensus.specs.declared.Answer.{Answer}
 use Rattle.consensus.specs.declared.Unit as U
-use Rattle.agreement.specs.Contents.{Contents, Event, proposal, delivery, cut, off, on, eventUnit, begun, unlessEmpty, accepted, after, afterCut}
-use Rattle.agreement.specs.Contents.{afterProposal, delivered, deliveredCut, apply, step, AgreedContents}
+use Rattle.agreement.specs.Contents.{ContentsWorld, Event, proposal, delivery, cut, off, on, eventUnit, begun, unlessEmpty, accepted, after, afterCut}
+use Rattle.agreement.specs.Contents.{afterProposal, delivering, apply, step, AgreedContents}
 use Rattle.agreement.specs.Worlds.{Setup, settingsOf, Proposal, Decision, put, change, keep, report, decision, run, Given}
 use Rattle.consensus.proofs.Answers.{propose-keeps}
 use Rattle.consensus.proofs.Soundness.{sound-propose, sound-deliver, sound-key-off, sound-key-on, well-fresh}
@@ -38,7 +38,7 @@ use Rattle.agreement.proofs.Good.{Good, fair-none, good-off, good-on, g
 abbrev pub Proposed : List Proposal → ℕ → Type 0
 Proposed ps v = (b : ℕ) × List·Memᴰ (record { unit = b; mileage = v }) ps
 
-abbrev pub Inv : Limits → Setup → Contents → Type 0
+abbrev pub Inv : Limits → Setup → ContentsWorld → Type 0
 Inv l c w = Invariant l c (λ m. List·Memᴰ m (w .sent)) (Proposed (w .proposed)) (λ d. List·Memᴰ d (w .decided)) (w .units)
 
 -- a fact of what there is, if any
@@ -88,7 +88,7 @@ when-decided P u r Split h = tt
 when-decided P u r (Mileage v) h = h
 
 -- the world after an answer, field by field
-abbrev answered : Contents → List Proposal → ℕ → ℕ → Answer → Contents
+abbrev answered : ContentsWorld → List Proposal → ℕ → ℕ → Answer → ContentsWorld
 answered w ps u r a =
     record {
       units = put (w .units) u (a .unit);
@@ -97,7 +97,7 @@ answered w ps u r a =
       decided = added (w .decided) (decision u r (a .decision));
     }
 
-after-is : (w : Contents) (u r : ℕ) (a : Answer) → after w u r a ≡ answered w (w .proposed) u r a
+after-is : (w : ContentsWorld) (u r : ℕ) (a : Answer) → after w u r a ≡ answered w (w .proposed) u r a
 unfolding after
 after-is w u r a = go (unlessEmpty (a .message .kind) (a .message)) (decision u r (a .decision))
   where
@@ -111,18 +111,18 @@ after-is w u r a = go (unlessEmpty (a .message .kind) (a .message)) (decision u 
 -- ---- the events
 
 -- an event leads from w to w′: the invariant holds there, and what it reported was proposed before
-record Next (l : Limits) (c : Setup) (w w′ : Contents) : Type 0 where
+record Next (l : Limits) (c : Setup) (w w′ : ContentsWorld) : Type 0 where
   inv : Inv l c w′
   decision : Option Decision
   last : w′ .decided ≡ added (w .decided) decision
   given : When (λ d. Proposed (w .proposed) (d .mileage)) decision
 
-module _ (l : Limits) (c : Setup) (w : Contents) (inv : Inv l c w) where
+module _ (l : Limits) (c : Setup) (w : ContentsWorld) (inv : Inv l c w) where
   same : Next l c w w
   same = record { inv = inv; decision = none; last = refl; given = tt }
 
   -- an event that changes nothing unless b
-  if : (b : Bool) {w′ : Contents} → (b ≡ true → Next l c w w′) → Next l c w (cond b w′ w)
+  if : (b : Bool) {w′ : ContentsWorld} → (b ≡ true → Next l c w w′) → Next l c w (cond b w′ w)
   if true f = f refl
   if false f = same
 
@@ -226,10 +226,10 @@ module _ (l : Limits) (c : Setup) (w : Contents) (inv : Inv l c w) where
           (λ h. off-next (deliver l (w .units u) m .unit) (member A (m .round) (w .units u) (here .settings) _ sound good))
 
   apply-next : (e : Event) → eventUnit e < c .n → Next l c w (apply l w e)
-  unfolding apply delivered deliveredCut
+  unfolding apply delivering
   apply-next (proposal u v) b = proposal-next u (inv .units u b) v
-  apply-next (delivery u k) b = at-place (λ o. Next l c w (delivered l w u o)) (w .sent) same (delivery-next u (inv .units u b)) k
-  apply-next (cut u k) b = at-place (λ o. Next l c w (deliveredCut l w u o)) (w .sent) same (cut-next u (inv .units u b)) k
+  apply-next (delivery u k) b = at-place (λ o. Next l c w (delivering l w u (λ m a. after w u (m .round) a) o)) (w .sent) same (delivery-next u (inv .units u b)) k
+  apply-next (cut u k) b = at-place (λ o. Next l c w (delivering l w u (λ m a. afterCut w u a) o)) (w .sent) same (cut-next u (inv .units u b)) k
   apply-next (off u) b = off-next u (inv .units u b) (w .units u) (inv .units u b)
   apply-next (on u) b = on-next u (inv .units u b) (w .units u) (inv .units u b)
 
@@ -239,10 +239,10 @@ module _ (l : Limits) (c : Setup) (w : Contents) (inv : Inv l c w) where
 
 -- ---- the invariant over a history
 
-pub step-inv : (l : Limits) (c : Setup) (w : Contents) (e : Event) → Inv l c w → Inv l c (step l (c .n) w e)
+pub step-inv : (l : Limits) (c : Setup) (w : ContentsWorld) (e : Event) → Inv l c w → Inv l c (step l (c .n) w e)
 step-inv l c w e i = step-next l c w i e .inv
 
-pub run-inv : (l : Limits) (c : Setup) (w : Contents) (es : List Event) → Inv l c w → Inv l c (run (step l (c .n)) w es)
+pub run-inv : (l : Limits) (c : Setup) (w : ContentsWorld) (es : List Event) → Inv l c w → Inv l c (run (step l (c .n)) w es)
 unfolding run
 run-inv l c w [] inv = inv
 run-inv l c w (e ∷ es) inv = run-inv l c (step l (c .n) w e) es (step-inv l c w e inv)
@@ -268,7 +268,7 @@ begun-inv l c ok =
 
 -- ---- what the byte level reads of it
 
-module _ (l : Limits) (c : Setup) (w : Contents) (inv : Inv l c w) where
+module _ (l : Limits) (c : Setup) (w : ContentsWorld) (inv : Inv l c w) where
   pub well-formed-unit : (u : ℕ) → u < c .n → WellFormed l (w .units u) × (w .units u .settings ≡ settingsOf c u)
   well-formed-unit u b = let i = inv .units u b in (i .well-formed, i .settings)
 
@@ -279,14 +279,14 @@ module _ (l : Limits) (c : Setup) (w : Contents) (inv : Inv l c w) where
 -- ---- demand 3
 
 -- the mileage of a decision was given before the event that reports it
-pub step-proposed : (l : Limits) (c : Setup) (w : Contents) (e : Event) → Inv l c w → (d : Decision)
+pub step-proposed : (l : Limits) (c : Setup) (w : ContentsWorld) (e : Event) → Inv l c w → (d : Decision)
     → step l (c .n) w e .decided ≡ w .decided ++ (d ∷ []) → Given (d .mileage) w
 step-proposed l c w e i d h =
     let n = step-next l c w i e in
     let g = added-last (λ d. Proposed (w .proposed) (d .mileage)) (w .decided) (n .decision) d (sym (n .last) ∙ h) (n .given) in
     record { by = g .0; there = g .1 }
 
-pub agreed : (l : Limits) (c : Setup) (w : Contents) (es : List Event) → Inv l c w → AgreedContents l (c .n) w es
+pub agreed : (l : Limits) (c : Setup) (w : ContentsWorld) (es : List Event) → Inv l c w → AgreedContents l (c .n) w es
 agreed l c w es inv =
     record {
       same = agreement l c _ _ _ _ end;

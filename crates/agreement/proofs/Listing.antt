@@ -18,10 +18,13 @@ use Rattle.codec.specs.Messages.{readMessage, cleared}
 use Rattle.codec.specs.Images.{readImage, imageBytes}
 use Rattle.consensus.specs.Rows.{firstOf}
 use Rattle.consensus.specs.Units.{atLog, downUnit}
-use Rattle.consensus.specs.Step.{says, logWrite, atRound, fresh, recovered, sendFirst, proposed, takeFirst, onFirst, isFull, takeSecond, countCheck, checksWith, onCheck, nextProposal, close, countSecond, secondsWith, onSecond, onKind, skip, caughtUp, received}
+use Rattle.consensus.specs.Step.{says, logWrite, atRound, fresh, recovered, sendFirst, proposed, takeFirst, onFirst, isFull, takeSecond, countCheck}
+use Rattle.consensus.specs.Step.{checksWith, onCheck, nextProposal, close, countSecond, secondsWith, onSecond, onKind, skip, caughtUp, received}
 use Rattle.consensus.specs.Deliver.{forOther, outOfRange, closesLast, unless, proposeRows, propose, deliverRows, deliver, keyOn}
-use Rattle.mileage.specs.Calls.{unitLengths, badLog, badSettings, badImage, badMessage, logBytes, messageBytes, startCallRows, startCall, keyOnCallRows, keyOnCall, proposeCallRows, proposeCall, deliverCallRows, deliverCall}
-use Rattle.agreement.specs.Bytes.{Bytes, up, Event, proposal, delivery, cut, off, on, begun, after, afterProposal, afterCut, afterKeyOn, proposalOf, deliveryOf, cutOf, keyOnOf, step}
+use Rattle.mileage.specs.Calls.{unitLengths, badLog, badSettings, badImage, badMessage, logBytes, messageBytes, startCallRows, startCall, keyOnCallRows}
+use Rattle.mileage.specs.Calls.{keyOnCall, proposeCallRows, proposeCall, deliverCallRows, deliverCall}
+use Rattle.agreement.specs.Bytes.{ByteWorld, up, Event, proposal, delivery, cut, on, begun, after, afterProposal, afterCut, afterKeyOn, proposalOf}
+use Rattle.agreement.specs.Bytes.{delivering, keyOnOf, step}
 use Rattle.agreement.specs.Worlds.{Setup, run}
 
 abbrev setup : Setup
@@ -51,10 +54,10 @@ listing =
     ∷ delivery 2 4 out
     ∷ []
 
-abbrev first : Bytes
+abbrev first : ByteWorld
 first = begun today setup (λ u. junk (logSize today)) (λ u. junk (imageSize today))
 
-abbrev last : Bytes
+abbrev last : ByteWorld
 last = run (step today 3) first listing
 
 -- 412,077 and blank, as they are stored
@@ -90,5 +93,5 @@ unfolding ones allHold common firstPassing noMarks mark gatheredFrom gathered
     atRound fresh recovered sendFirst proposed takeFirst onFirst isFull takeSecond countCheck checksWith onCheck nextProposal close countSecond
     secondsWith onSecond onKind skip caughtUp received forOther outOfRange closesLast unless proposeRows propose deliverRows deliver keyOn unitLengths
     badLog badSettings badImage badMessage logBytes messageBytes startCallRows startCall keyOnCallRows keyOnCall proposeCallRows proposeCall
-    deliverCallRows deliverCall run begun after afterProposal afterCut afterKeyOn proposalOf deliveryOf cutOf keyOnOf step
+    deliverCallRows deliverCall run begun after afterProposal afterCut afterKeyOn proposalOf delivering keyOnOf step
 shown = (refl, (refl, (refl, refl)))

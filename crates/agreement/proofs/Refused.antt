@@ -1,6 +1,6 @@
 -- A refused call of any entry, whatever its buffers, leaves every unit's bytes as they were. Assumes nothing.
 use Prim.Native.Nat.{ℕ, _<_}
-use mathlib.Core.Path.{_≡_, refl, sym, ap, _∙_}
+use mathlib.Core.Path.{_≡_, refl, ap, _∙_}
 use mathlib.Core.Bool.{Bool, true, false, cond, _&&_}
 use mathlib.Core.List.{List, [], _∷_}
 use mathlib.Core.Logic.{_⊎_, inl, inr}
@@ -8,7 +8,7 @@ use native.Mathlib.Omega.{arith}
 use lib.Dec.{eqb}
 use lib.ListN.{length}
 use borrow.Author.Tests.{ne-eqb}
-use Rattle.tally.specs.Limits.{Limits, Sane, blankCode, logSize, imageSize, messageSize}
+use Rattle.tally.specs.Limits.{Limits, Sane, messageSize}
 use Rattle.tally.proofs.Count.{Each}
 use Rattle.codec.specs.Formats.{wrote, Format, fromNumbers, readBytes, toBytes}
 use Rattle.codec.specs.Images.{imageBytes}
@@ -22,13 +22,13 @@ use Rattle.mileage.specs.Calls.{Called, Refusing, logBytes}
 use Rattle.mileage.specs.Fields.{readCall, writeCall, readLogCall, writeLogCall, readMessageCall, writeMessageCall}
 use Rattle.mileage.proofs.Encoded.{read-log, read-image}
 use Rattle.mileage.proofs.Rows.{start-refusing, key-on-refusing, propose-refusing, deliver-refusing}
-use Rattle.agreement.specs.Bytes.{Bytes, Lent, logOf, imageOf, other, Call, starts, keysOn, proposes, delivers, readsLog, readsMessage}
+use Rattle.agreement.specs.Bytes.{ByteWorld, Lent, logOf, imageOf, other, Call, starts, keysOn, proposes, delivers, readsLog, readsMessage}
 use Rattle.agreement.specs.Bytes.{writesLog, writesMessage, lentBytes, bytesOr, imageLeft, Exit, runCall, ended, leave, leaveAll}
-use Rattle.agreement.specs.Contents.{Contents}
-use Rattle.agreement.proofs.Encoding.{stationAt, station, Encodes, Valid, encodes-same}
+use Rattle.agreement.specs.Contents.{ContentsWorld}
+use Rattle.agreement.proofs.Encoding.{unitBytesAt, Encodes, Valid, encodes-same}
 
 -- a buffer at exit holds what it held, or that cleared
-abbrev Stays : Limits → Bytes → Exit → Type 0
+abbrev Stays : Limits → ByteWorld → Exit → Type 0
 Stays l b x = (x .bytes ≡ lentBytes b (x .lent)) ⊎ (x .bytes ≡ cleared l (lentBytes b (x .lent)))
 
 -- of reading and writing fields: where an answer is refused, `kept` stands in the buffer
@@ -46,7 +46,7 @@ module _ {A : Type 0} (f : Format A) where
   write-kept fs kept bs =
       kept-out (eqb (length fs) (f .fields) && eqb (length bs) (f .size)) (eqb (fromNumbers f fs .number) 0) (toBytes f (fromNumbers f fs .contents)) kept _ _
 
-module _ (l : Limits) (b : Bytes) where
+module _ (l : Limits) (b : ByteWorld) where
   -- of the calls of a unit
   unit-stays : (rows : List Row) (log image out : Lent) (c : Called) → Refusing l rows (lentBytes b log) (lentBytes b image) (lentBytes b out) c
       → (c .number ≡ 0 → ⊥) → Each (Stays l b) (ended c log image out .exits)
@@ -71,17 +71,17 @@ unfolding cleared
 cleared-other l bs n = rw (ne-eqb (length bs) (messageSize l) n)
 
 -- what is left in a unit's log or image is what it had
-abbrev Kept : Limits → ℕ → Contents → Lent → List ℕ → Type 0
+abbrev Kept : Limits → ℕ → ContentsWorld → Lent → List ℕ → Type 0
 Kept l n w (logOf u) bs = u < n → bs ≡ logBytes l (unitLog (w .units u))
 Kept l n w (imageOf u) bs = u < n → w .units u .power ≡ Up → bs ≡ imageBytes l (unitImage (w .units u))
 Kept l n w (other cs) bs = Unit
 
-module _ (l : Limits) (sane : Sane l) (n : ℕ) (w : Contents) (valid : Valid l n w) where
-  module _ (b : Bytes) (enc : Encodes l n b w) where
+module _ (l : Limits) (sane : Sane l) (n : ℕ) (w : ContentsWorld) (valid : Valid l n w) where
+  module _ (b : ByteWorld) (enc : Encodes l n b w) where
     pub has-log : (u : ℕ) → u < n → b .units u .log ≡ logBytes l (unitLog (w .units u))
     has-log u h = rw (enc .units u h) (go (w .units u .power))
       where
-        go : (p : Power) → stationAt l p (w .units u) .log ≡ logBytes l (unitLog (w .units u))
+        go : (p : Power) → unitBytesAt l p (w .units u) .log ≡ logBytes l (unitLog (w .units u))
         go Up = refl
         go Down = refl
 
@@ -101,24 +101,25 @@ module _ (l : Limits) (sane : Sane l) (n : ℕ) (w : Contents) (valid : Valid l 
     encodes-leave : (lent : Lent) (bs : List ℕ) → Kept l n w lent bs → Encodes l n (leave b lent bs) w
     encodes-leave (logOf u) bs k = encodes-same l n b w enc u _ (λ h. rw (k h, enc .units u h) (go (w .units u .power)))
       where
-        go : (p : Power) → record { log = logBytes l (unitLog (w .units u)); image = stationAt l p (w .units u) .image } ≡ stationAt l p (w .units u)
+        go : (p : Power) → record { log = logBytes l (unitLog (w .units u)); image = unitBytesAt l p (w .units u) .image } ≡ unitBytesAt l p (w .units u)
         go Up = refl
         go Down = refl
     encodes-leave (imageOf u) bs k = encodes-same l n b w enc u _ (λ h. rw (enc .units u h) (go (w .units u .power) (k h)))
       where
         go : (p : Power) → (p ≡ Up → bs ≡ imageBytes l (unitImage (w .units u)))
-            → record { log = stationAt l p (w .units u) .log; image = imageLeft (stationAt l p (w .units u) .image) bs } ≡ stationAt l p (w .units u)
+            → record { log = unitBytesAt l p (w .units u) .log; image = imageLeft (unitBytesAt l p (w .units u) .image) bs } ≡ unitBytesAt l p (w .units u)
         go Up k = rw (k refl)
         go Down k = refl
     encodes-leave (other cs) bs k = enc
 
-  encodes-all : (b : Bytes) → Encodes l n b w → (xs : List Exit) → Each (λ x. Kept l n w (x .lent) (x .bytes)) xs → Encodes l n (leaveAll b xs) w
+  encodes-all : (b : ByteWorld) → Encodes l n b w → (xs : List Exit) → Each (λ x. Kept l n w (x .lent) (x .bytes)) xs → Encodes l n (leaveAll b xs) w
   unfolding leaveAll
   encodes-all b enc [] k = enc
   encodes-all b enc (x ∷ xs) k = encodes-all (leave b (x .lent) (x .bytes)) (encodes-leave b enc (x .lent) (x .bytes) (k .0)) xs (k .1)
 
   -- the event of a refused call
-  pub on-call : (b : Bytes) → Encodes l n b w → (c : Call) → (runCall l b c .number ≡ 0 → ⊥) → Encodes l n (leaveAll b (runCall l b c .exits)) w
+  pub on-call : (b : ByteWorld) → Encodes l n b w → (c : Call) → (runCall l b c .number ≡ 0 → ⊥)
+      → Encodes l n (leaveAll b (runCall l b c .exits)) w
   on-call b enc c h = encodes-all b enc (runCall l b c .exits) (all (runCall l b c .exits) (call-stays l b c h))
     where
       all : (xs : List Exit) → Each (Stays l b) xs → Each (λ x. Kept l n w (x .lent) (x .bytes)) xs

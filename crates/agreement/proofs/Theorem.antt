@@ -1,17 +1,15 @@
 -- Demand 3 over bytes: the invariant is kept by every event, from any world that has it. Assumes nothing.
 use Prim.Native.Nat.{ℕ, _<_}
 use mathlib.Core.Path.{_≡_, refl, sym, ap, subst, _∙_}
-use mathlib.Core.Bool.{true}
 use mathlib.Core.List.{List, [], _∷_, _++_, List·Memᴰ}
-use mathlib.Core.Logic.{_⊎_, inl, inr}
-use mathlib.Core.Option.{Option, none, some}
+use mathlib.Core.Logic.{inl, inr}
+use mathlib.Core.Option.{some}
 use native.Mathlib.Omega.{arith}
 use lib.ListN.{length, length-append}
 use Rattle.tally.specs.Limits.{Limits, Sane, today}
 use Rattle.tally.proofs.Bounds.{sane-today}
 use Rattle.tally.proofs.Never.{never}
 use Rattle.tally.specs.declared.Engine.{Engine}
-use Rattle.contents.specs.Logs.{settingsOk}
 use Rattle.contents.specs.declared.Image.{Image}
 use Rattle.contents.specs.declared.Log.{Log}
 use Rattle.contents.specs.declared.State.{State}
@@ -21,19 +19,16 @@ use Rattle.codec.specs.declared.EngineRead.the-variants.{Is}
 use Rattle.codec.specs.Images.{readImage, imageBytes}
 use Rattle.codec.specs.Logs.{readLog}
 use Rattle.codec.proofs.Letters.{engine-letter}
-use Rattle.consensus.specs.Deliver.{isUp}
 use Rattle.consensus.specs.Step.{fresh}
 use Rattle.consensus.specs.Units.{unitLog, unitImage, atLog}
 use Rattle.consensus.specs.declared.Power.{Power}
 use Rattle.consensus.specs.declared.Power.the-variants.{Down, Up}
-use Rattle.consensus.specs.declared.Unit as U
-use Rattle.mileage.specs.Calls.{Called, logBytes}
 use Rattle.mileage.proofs.Encoded.{Started, start-accepted, read-log, read-image}
-use Rattle.agreement.specs.Bytes.{Station, Bytes, up, Event, startOf, begun, step, LawfulEvent, Lawful}
+use Rattle.agreement.specs.Bytes.{UnitBytes, ByteWorld, up, Event, startOf, begun, step, LawfulEvent, Lawful}
 use Rattle.agreement.specs.Contents as C
 use Rattle.agreement.specs.Demand3.{HasLog, HasImage, Readable, Demand3, Always}
-use Rattle.agreement.specs.Worlds.{Setup, settingsOf, Decision, run, Given, Locked, Agreed}
-use Rattle.agreement.proofs.Encoding.{stationAt, station, Encodes, Valid, Follows}
+use Rattle.agreement.specs.Worlds.{Setup, settingsOf, Decision, run, Given, Locked}
+use Rattle.agreement.proofs.Encoding.{unitBytesAt, unitBytes, Encodes, Valid, Follows}
 use Rattle.agreement.proofs.Follows.{step-follows}
 use Rattle.agreement.proofs.History.{Inv, step-inv, begun-inv, well-formed-unit, from-unit, step-proposed, agreed}
 use Rattle.agreement.proofs.Refused.{has-log}
@@ -42,23 +37,23 @@ is-inj : (a b : Engine) → Is a ≡ Is b → a ≡ b
 is-inj a b h = cc
 
 -- the invariant of a world of bytes: it has the bytes of a world of contents that has it
-pub record BytesInv (l : Limits) (c : Setup) (b : Bytes) : Type 0 where
-  pub contents : C.Contents
+pub record BytesInv (l : Limits) (c : Setup) (b : ByteWorld) : Type 0 where
+  pub contents : C.ContentsWorld
   pub encodes : Encodes l (c .n) b contents
   pub inv : Inv l c contents
 
 module _ (l : Limits) (sane : Sane l) (c : Setup) where
-  valid : (w : C.Contents) → Inv l c w → Valid l (c .n) w
+  valid : (w : C.ContentsWorld) → Inv l c w → Valid l (c .n) w
   valid w inv = record { units = λ u h. well-formed-unit l c w inv u h .0; sent = λ m h. from-unit l c w inv m h .well-formed }
 
-  pub bytes-step : (b : Bytes) (e : Event) → BytesInv l c b → LawfulEvent l b e → BytesInv l c (step l (c .n) b e)
+  pub bytes-step : (b : ByteWorld) (e : Event) → BytesInv l c b → LawfulEvent l b e → BytesInv l c (step l (c .n) b e)
   bytes-step b e i h = go (step-follows l sane (c .n) b (i .contents) (i .encodes) (valid (i .contents) (i .inv)) e h)
     where
       go : Follows l (c .n) (step l (c .n) b e) (i .contents) → BytesInv l c (step l (c .n) b e)
       go (inl enc) = record { contents = i .contents; encodes = enc; inv = i .inv }
       go (inr f) = record { contents = C.step l (c .n) (i .contents) (f .0); encodes = f .1; inv = step-inv l c (i .contents) (f .0) (i .inv) }
 
-  pub bytes-run : (b : Bytes) (es : List Event) → BytesInv l c b → Lawful l (c .n) b es → BytesInv l c (run (step l (c .n)) b es)
+  pub bytes-run : (b : ByteWorld) (es : List Event) → BytesInv l c b → Lawful l (c .n) b es → BytesInv l c (run (step l (c .n)) b es)
   unfolding run
   bytes-run b [] i h = i
   bytes-run b (e ∷ es) i h = bytes-run (step l (c .n) b e) es (bytes-step b e i (h .0)) (h .1)
@@ -77,14 +72,14 @@ module _ (l : Limits) (sane : Sane l) (c : Setup) where
           inv = begun-inv l c (λ u h. start-at u h .range);
         }
       where
-        same : (u : ℕ) → u < c .n → up (startOf l c logs images u .log) (startOf l c logs images u .image) ≡ station l (fresh (settingsOf c u))
+        same : (u : ℕ) → u < c .n → up (startOf l c logs images u .log) (startOf l c logs images u .image) ≡ unitBytes l (fresh (settingsOf c u))
         same u h =
             let s = start-at u h in
             let g : c .engine ≡ s .known = is-inj (c .engine) (s .known) (sym (engine-letter (c .engine)) ∙ s .letter) in
             rw (s .answer, ← g)
 
   -- what holds of a world's contents is said of its bytes
-  module _ (b : Bytes) (i : BytesInv l c b) where
+  module _ (b : ByteWorld) (i : BytesInv l c b) where
     ok : Valid l (c .n) (i .contents)
     ok = valid (i .contents) (i .inv)
 
@@ -102,9 +97,9 @@ module _ (l : Limits) (sane : Sane l) (c : Setup) where
 
       reads-image : (bs : List ℕ) → b .units u .image ≡ some bs
           → (i .contents .units u .power ≡ Up) × (readImage l bs ≡ reading 0 (unitImage (i .contents .units u)))
-      reads-image bs e = go (i .contents .units u .power) refl (ap (λ (x : Station). x .image) (sym (i .encodes .units u h)) ∙ e)
+      reads-image bs e = go (i .contents .units u .power) refl (ap (λ (x : UnitBytes). x .image) (sym (i .encodes .units u h)) ∙ e)
         where
-          go : (p : Power) → i .contents .units u .power ≡ p → stationAt l p (i .contents .units u) .image ≡ some bs
+          go : (p : Power) → i .contents .units u .power ≡ p → unitBytesAt l p (i .contents .units u) .image ≡ some bs
               → (i .contents .units u .power ≡ Up) × (readImage l bs ≡ reading 0 (unitImage (i .contents .units u)))
           go Up on s =
               let q : imageBytes l (unitImage (i .contents .units u)) ≡ bs = cc in
@@ -142,14 +137,14 @@ module _ (l : Limits) (sane : Sane l) (c : Setup) where
             record { by = g .by; there = subst (List·Memᴰ _) (sym (i .encodes .proposed)) (g .there) }
 
   -- a beginning of a lawful history is lawful, and so is the event after it
-  lawful-before : (b : Bytes) (before after : List Event) (e : Event) → Lawful l (c .n) b (before ++ (e ∷ after))
+  lawful-before : (b : ByteWorld) (before after : List Event) (e : Event) → Lawful l (c .n) b (before ++ (e ∷ after))
       → Lawful l (c .n) b before × LawfulEvent l (run (step l (c .n)) b before) e
   unfolding run
   lawful-before b [] after e h = (tt, h .0)
   lawful-before b (x ∷ before) after e h = let r = lawful-before (step l (c .n) b x) before after e (h .1) in ((h .0, r .0), r .1)
 
   -- demand 3, from any world that has the invariant
-  pub demand-3-from : (b : Bytes) (es : List Event) → BytesInv l c b → Lawful l (c .n) b es → Demand3 l (c .n) b es
+  pub demand-3-from : (b : ByteWorld) (es : List Event) → BytesInv l c b → Lawful l (c .n) b es → Demand3 l (c .n) b es
   demand-3-from b es i lawful =
       record {
         agreed =
@@ -162,7 +157,7 @@ module _ (l : Limits) (sane : Sane l) (c : Setup) where
         readable = λ u h. readable-now last end u h;
       }
     where
-      last : Bytes
+      last : ByteWorld
       last = run (step l (c .n)) b es
 
       end : BytesInv l c last

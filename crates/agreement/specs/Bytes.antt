@@ -7,30 +7,27 @@ use mathlib.Core.Option.{Option, none, some}
 use lib.Dec.{eqb, ltb}
 use lib.ListN.{getElem?}
 use Rattle.tally.specs.Limits.{Limits}
-use Rattle.contents.specs.declared.State.{State}
 use Rattle.codec.specs.Codes.{letterOf, estimateOf}
 use Rattle.codec.specs.Formats.{Wrote}
-use Rattle.codec.specs.Images.{readImage}
-use Rattle.codec.specs.Logs.{readLog}
-use Rattle.codec.specs.Messages.{readMessage, emptyBytes}
+use Rattle.codec.specs.Messages.{readMessage}
 use Rattle.mileage.specs.Calls.{Called, startCall, keyOnCall, proposeCall, deliverCall}
 use Rattle.mileage.specs.Fields.{readLogCall, writeLogCall, readMessageCall, writeMessageCall}
-use Rattle.agreement.specs.Worlds.{Setup, World, put, change, keep, report, give, decision}
+use Rattle.agreement.specs.Worlds.{Setup, World, change, keep, report, give, decision}
 
 -- a unit of a history: the bytes of its log and, while it is up, of its image
-pub record Station : Type 0 where
+pub record UnitBytes : Type 0 where
   pub log : List ℕ
   pub image : Option (List ℕ)
 
-abbrev pub up : List ℕ → List ℕ → Station
+abbrev pub up : List ℕ → List ℕ → UnitBytes
 up log image = record { log = log; image = some image }
 
-abbrev pub down : List ℕ → Station
+abbrev pub down : List ℕ → UnitBytes
 down log = record { log = log; image = none }
 
 -- messages sent are kept as copies of their bytes
-abbrev pub Bytes : Type 0
-Bytes = World Station (List ℕ)
+abbrev pub ByteWorld : Type 0
+ByteWorld = World UnitBytes (List ℕ)
 
 -- a buffer that a host lends: the log or the image of a unit, or any other
 pub data Lent : Type 0 where
@@ -60,7 +57,7 @@ abbrev pub startOf : Limits → Setup → (ℕ → List ℕ) → (ℕ → List �
 startOf l c logs images u = startCall l (letterOf (c .engine)) (c .n) u (c .entry) (logs u) (images u)
 
 -- at its start each unit has been started once, whatever its buffers held before; all are up and nothing is sent
-unfoldable pub begun : Limits → Setup → (ℕ → List ℕ) → (ℕ → List ℕ) → Bytes
+unfoldable pub begun : Limits → Setup → (ℕ → List ℕ) → (ℕ → List ℕ) → ByteWorld
 begun l c logs images = record { units = λ u. up (startOf l c logs images u .log) (startOf l c logs images u .image); sent = []; proposed = []; decided = [] }
 
 -- ---- proposal, delivery, cut delivery, key-off, key-on
@@ -75,21 +72,21 @@ unlessEmpty bs = cond (allZero bs) none (some bs)
 
 -- the log and image that the call gives are the unit's from then on; where it is accepted its message, unless empty, is kept next,
 -- and its decision, if any, is reported
-unfoldable pub after : Bytes → ℕ → ℕ → Called → Bytes
+unfoldable pub after : ByteWorld → ℕ → ℕ → Called → ByteWorld
 after w u r c =
     let now = change w u (up (c .log) (c .image)) in
     cond (eqb (c .number) 0) (report (keep now (unlessEmpty (c .out))) (decision u r (estimateOf (c .decision)))) now
 
 -- an accepted proposal is recorded as well
-unfoldable pub afterProposal : Bytes → ℕ → ℕ → Called → Bytes
+unfoldable pub afterProposal : ByteWorld → ℕ → ℕ → Called → ByteWorld
 afterProposal w u v c = cond (eqb (c .number) 0) (give (after w u 0 c) (record { unit = u; mileage = v })) (after w u 0 c)
 
 -- accepted, the log it gives is the unit's from then on; image, message and decision are lost and the unit is down
-unfoldable pub afterCut : Bytes → ℕ → Called → Bytes
+unfoldable pub afterCut : ByteWorld → ℕ → Called → ByteWorld
 afterCut w u c = cond (eqb (c .number) 0) (change w u (down (c .log))) (change w u (up (c .log) (c .image)))
 
 -- accepted, the unit is up with that image
-unfoldable pub afterKeyOn : Bytes → ℕ → Called → Bytes
+unfoldable pub afterKeyOn : ByteWorld → ℕ → Called → ByteWorld
 afterKeyOn w u c = cond (eqb (c .number) 0) (change w u (up (c .log) (c .image))) w
 
 -- a message's round; that of a decision is the round of the SECOND delivered, which is that of all the SECONDs gathered
@@ -97,21 +94,17 @@ abbrev pub roundOf : Limits → List ℕ → ℕ
 roundOf l message = readMessage l message .contents .round
 
 -- the event of unit u with the image it has, none where it is down, and the message of the number given, none where not yet sent
-unfoldable pub proposalOf : Limits → Bytes → ℕ → ℕ → List ℕ → Option (List ℕ) → Bytes
+unfoldable pub proposalOf : Limits → ByteWorld → ℕ → ℕ → List ℕ → Option (List ℕ) → ByteWorld
 proposalOf l w u v out none = w
 proposalOf l w u v out (some image) = afterProposal w u v (proposeCall l (w .units u .log) image v out)
 
-unfoldable pub deliveryOf : Limits → Bytes → ℕ → List ℕ → Option (List ℕ) → Option (List ℕ) → Bytes
-deliveryOf l w u out (some image) (some m) = after w u (roundOf l m) (deliverCall l (w .units u .log) image m out)
-deliveryOf l w u out none m = w
-deliveryOf l w u out (some image) none = w
+-- a delivery and a cut of it are the same call, and f is what the event makes of the message and the answer
+unfoldable pub delivering : Limits → ByteWorld → ℕ → List ℕ → (List ℕ → Called → ByteWorld) → Option (List ℕ) → Option (List ℕ) → ByteWorld
+delivering l w u out f (some image) (some m) = f m (deliverCall l (w .units u .log) image m out)
+delivering l w u out f none m = w
+delivering l w u out f (some image) none = w
 
-unfoldable pub cutOf : Limits → Bytes → ℕ → List ℕ → Option (List ℕ) → Option (List ℕ) → Bytes
-cutOf l w u out (some image) (some m) = afterCut w u (deliverCall l (w .units u .log) image m out)
-cutOf l w u out none m = w
-cutOf l w u out (some image) none = w
-
-unfoldable pub keyOnOf : Limits → Bytes → ℕ → List ℕ → Option (List ℕ) → Bytes
+unfoldable pub keyOnOf : Limits → ByteWorld → ℕ → List ℕ → Option (List ℕ) → ByteWorld
 keyOnOf l w u image none = afterKeyOn w u (keyOnCall l (w .units u .log) image)
 keyOnOf l w u image (some i) = w
 
@@ -122,7 +115,7 @@ abbrev pub bytesOr : Option (List ℕ) → List ℕ
 bytesOr none = []
 bytesOr (some bs) = bs
 
-abbrev pub lentBytes : Bytes → Lent → List ℕ
+abbrev pub lentBytes : ByteWorld → Lent → List ℕ
 lentBytes w (logOf u) = w .units u .log
 lentBytes w (imageOf u) = bytesOr (w .units u .image)
 lentBytes w (other bs) = bs
@@ -145,7 +138,7 @@ ended c log image out = record { number = c .number; exits = exit log (c .log) �
 abbrev pub endedFields : Wrote → Lent → Ended
 endedFields r out = record { number = r .number; exits = exit out (r .out) ∷ [] }
 
-unfoldable pub runCall : Limits → Bytes → Call → Ended
+unfoldable pub runCall : Limits → ByteWorld → Call → Ended
 runCall l w (starts engine n unit entry log image) = ended (startCall l engine n unit entry (lentBytes w log) (lentBytes w image)) log image (other [])
 runCall l w (keysOn log image) = ended (keyOnCall l (lentBytes w log) (lentBytes w image)) log image (other [])
 runCall l w (proposes log image mileage out) = ended (proposeCall l (lentBytes w log) (lentBytes w image) mileage (lentBytes w out)) log image out
@@ -161,31 +154,31 @@ abbrev pub imageLeft : Option (List ℕ) → List ℕ → Option (List ℕ)
 imageLeft none bs = none
 imageLeft (some i) bs = some bs
 
-abbrev pub leave : Bytes → Lent → List ℕ → Bytes
+abbrev pub leave : ByteWorld → Lent → List ℕ → ByteWorld
 leave w (logOf u) bs = change w u (record { log = bs; image = w .units u .image })
 leave w (imageOf u) bs = change w u (record { log = w .units u .log; image = imageLeft (w .units u .image) bs })
 leave w (other cs) bs = w
 
-unfoldable pub leaveAll : Bytes → List Exit → Bytes
+unfoldable pub leaveAll : ByteWorld → List Exit → ByteWorld
 leaveAll w [] = w
 leaveAll w (x ∷ xs) = leaveAll (leave w (x .lent) (x .bytes)) xs
 
 -- ---- histories
 
 -- units are numbered 0 to n − 1: an event of another is none
-abbrev pub ofUnit : ℕ → ℕ → Bytes → Bytes → Bytes
+abbrev pub ofUnit : ℕ → ℕ → ByteWorld → ByteWorld → ByteWorld
 ofUnit n u w next = cond (ltb u n) next w
 
-unfoldable pub step : Limits → ℕ → Bytes → Event → Bytes
+unfoldable pub step : Limits → ℕ → ByteWorld → Event → ByteWorld
 step l n w (proposal u v out) = ofUnit n u w (proposalOf l w u v out (w .units u .image))
-step l n w (delivery u k out) = ofUnit n u w (deliveryOf l w u out (w .units u .image) (getElem? (w .sent) k))
-step l n w (cut u k out) = ofUnit n u w (cutOf l w u out (w .units u .image) (getElem? (w .sent) k))
+step l n w (delivery u k out) = ofUnit n u w (delivering l w u out (λ m c. after w u (roundOf l m) c) (w .units u .image) (getElem? (w .sent) k))
+step l n w (cut u k out) = ofUnit n u w (delivering l w u out (λ m c. afterCut w u c) (w .units u .image) (getElem? (w .sent) k))
 step l n w (off u) = ofUnit n u w (change w u (down (w .units u .log)))
 step l n w (on u image) = ofUnit n u w (keyOnOf l w u image (w .units u .image))
 step l n w (call c) = leaveAll w (runCall l w c .exits)
 
 -- a call with any buffers is an event exactly where it is refused
-abbrev pub LawfulEvent : Limits → Bytes → Event → Type 0
+abbrev pub LawfulEvent : Limits → ByteWorld → Event → Type 0
 LawfulEvent l w (proposal u v out) = Unit
 LawfulEvent l w (delivery u k out) = Unit
 LawfulEvent l w (cut u k out) = Unit
@@ -193,6 +186,6 @@ LawfulEvent l w (off u) = Unit
 LawfulEvent l w (on u image) = Unit
 LawfulEvent l w (call c) = runCall l w c .number ≡ 0 → ⊥
 
-abbrev pub Lawful : Limits → ℕ → Bytes → List Event → Type 0
+abbrev pub Lawful : Limits → ℕ → ByteWorld → List Event → Type 0
 Lawful l n w [] = Unit
 Lawful l n w (e ∷ es) = LawfulEvent l w e × Lawful l n (step l n w e) es

@@ -18,8 +18,8 @@ use Rattle.consensus.specs.declared.Answer.{Answer}
 use Rattle.consensus.specs.declared.Unit as U
 use Rattle.agreement.specs.Worlds.{Setup, settingsOf, World, change, keep, report, give, decision, Agreed}
 
-abbrev pub Contents : Type 0
-Contents = World U.Unit Message
+abbrev pub ContentsWorld : Type 0
+ContentsWorld = World U.Unit Message
 
 -- every event is of one unit
 pub data Event : Type 0 where
@@ -35,7 +35,7 @@ eventUnit (off u) = u
 eventUnit (on u) = u
 
 -- at its start each of the units has been started once; all are up and nothing is sent
-unfoldable pub begun : Setup → Contents
+unfoldable pub begun : Setup → ContentsWorld
 begun c = record { units = λ u. fresh (settingsOf c u); sent = []; proposed = []; decided = [] }
 
 -- a message unless it is empty
@@ -50,34 +50,31 @@ abbrev pub accepted : Answer → Bool
 accepted a = eqb (numberOf (a .refusal)) 0
 
 -- the unit, message and decision that a step of unit u in round r answered; a refusal's answer changes nothing
-unfoldable pub after : Contents → ℕ → ℕ → Answer → Contents
+unfoldable pub after : ContentsWorld → ℕ → ℕ → Answer → ContentsWorld
 after w u r a = report (keep (change w u (a .unit)) (unlessEmpty (a .message .kind) (a .message))) (decision u r (a .decision))
 
 -- a cut: the log is the unit's from now on; image, message and decision are lost and the unit is down
-unfoldable pub afterCut : Contents → ℕ → Answer → Contents
+unfoldable pub afterCut : ContentsWorld → ℕ → Answer → ContentsWorld
 afterCut w u a = cond (accepted a) (change w u (keyOff (a .unit) .unit)) w
 
-unfoldable pub afterProposal : Contents → ℕ → ℕ → Answer → Contents
+unfoldable pub afterProposal : ContentsWorld → ℕ → ℕ → Answer → ContentsWorld
 afterProposal w u v a = cond (accepted a) (give (after w u 0 a) (record { unit = u; mileage = v })) w
 
--- with a message number not yet sent, everything stays as it was
-unfoldable pub delivered : Limits → Contents → ℕ → Option Message → Contents
-delivered l w u none = w
-delivered l w u (some m) = after w u (m .round) (deliver l (w .units u) m)
+-- a delivery and a cut of it are the same call, and f is what the event makes of the message and the answer; with a message number not
+-- yet sent everything stays as it was
+unfoldable pub delivering : Limits → ContentsWorld → ℕ → (Message → Answer → ContentsWorld) → Option Message → ContentsWorld
+delivering l w u f none = w
+delivering l w u f (some m) = f m (deliver l (w .units u) m)
 
-unfoldable pub deliveredCut : Limits → Contents → ℕ → Option Message → Contents
-deliveredCut l w u none = w
-deliveredCut l w u (some m) = afterCut w u (deliver l (w .units u) m)
-
-unfoldable pub apply : Limits → Contents → Event → Contents
+unfoldable pub apply : Limits → ContentsWorld → Event → ContentsWorld
 apply l w (proposal u v) = afterProposal w u v (propose l (w .units u) v)
-apply l w (delivery u k) = delivered l w u (getElem? (w .sent) k)
-apply l w (cut u k) = deliveredCut l w u (getElem? (w .sent) k)
+apply l w (delivery u k) = delivering l w u (λ m a. after w u (m .round) a) (getElem? (w .sent) k)
+apply l w (cut u k) = delivering l w u (λ m a. afterCut w u a) (getElem? (w .sent) k)
 apply l w (off u) = change w u (keyOff (w .units u) .unit)
 apply l w (on u) = change w u (keyOn (w .units u) .unit)
 
 -- units are numbered 0 to n − 1
-unfoldable pub step : Limits → ℕ → Contents → Event → Contents
+unfoldable pub step : Limits → ℕ → ContentsWorld → Event → ContentsWorld
 step l n w e = cond (ltb (eventUnit e) n) (apply l w e) w
 
 abbrev pub HasLog : U.Unit → State → Type 0
@@ -88,5 +85,5 @@ abbrev pub HasImage : U.Unit → State → Type 0
 HasImage x s = (isUp (x .power) ≡ true) × (x .current ≡ s)
 
 -- demand 3 over contents
-abbrev pub AgreedContents : Limits → ℕ → Contents → List Event → Type 0
+abbrev pub AgreedContents : Limits → ℕ → ContentsWorld → List Event → Type 0
 AgreedContents l n w es = Agreed n HasLog HasImage (step l n) w es

@@ -7,22 +7,22 @@ use Rattle.tally.specs.Limits.{Limits}
 use Rattle.contents.specs.declared.State.{State}
 use Rattle.codec.specs.Images.{readImage}
 use Rattle.codec.specs.Logs.{readLog}
-use Rattle.agreement.specs.Bytes.{Station, Bytes, Event, startOf, begun, step, Lawful}
+use Rattle.agreement.specs.Bytes.{UnitBytes, ByteWorld, Event, startOf, begun, step, Lawful}
 use Rattle.agreement.specs.Worlds.{Setup, run, Agreed}
 
 -- a unit has the round and proposal in its log and, while up, those in its image
-abbrev pub HasLog : Limits → Station → State → Type 0
+abbrev pub HasLog : Limits → UnitBytes → State → Type 0
 HasLog l x s = (readLog l (x .log) .number ≡ 0) × (readLog l (x .log) .contents .state ≡ s)
 
-abbrev pub HasImage : Limits → Station → State → Type 0
+abbrev pub HasImage : Limits → UnitBytes → State → Type 0
 HasImage l x s = (bs : List ℕ) × ((x .image ≡ some bs) × ((readImage l bs .number ≡ 0) × (readImage l bs .contents .state ≡ s)))
 
 -- its log, and while it is up its image, can be read
-pub record Readable (l : Limits) (x : Station) : Type 0 where
+pub record Readable (l : Limits) (x : UnitBytes) : Type 0 where
   pub log : readLog l (x .log) .number ≡ 0
   pub image : (bs : List ℕ) → x .image ≡ some bs → readImage l bs .number ≡ 0
 
-pub record Demand3 (l : Limits) (n : ℕ) (w : Bytes) (es : List Event) : Type 0 where
+pub record Demand3 (l : Limits) (n : ℕ) (w : ByteWorld) (es : List Event) : Type 0 where
   pub agreed : Agreed n (HasLog l) (HasImage l) (step l n) w es
   pub readable : (u : ℕ) → u < n → Readable l (run (step l n) w es .units u)
 

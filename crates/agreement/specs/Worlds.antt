@@ -80,16 +80,24 @@ pub record Given {U M : Type 0} (v : ℕ) (w : World U M) : Type 0 where
 abbrev pub Locked : Decision → State → Type 0
 Locked d s = d .round < s .round → s .proposal ≡ Mileage (d .mileage)
 
+module _ {U M E : Type 0} (step : World U M → E → World U M) where
+  -- d is a decision that the events es from the world w on have left
+  abbrev pub Reported : World U M → List E → Decision → Type 0
+  Reported w es d = List·Memᴰ d (run step w es .decided)
+
+  -- d is the decision that the event e reports
+  abbrev pub Reports : World U M → E → Decision → Type 0
+  Reports w e d = step w e .decided ≡ w .decided ++ (d ∷ [])
+
 -- demand 3 of the events es from the world w on. `HasLog x s`: the unit x has a log at state s; `HasImage x s`: it is up with an image at s.
 pub record Agreed {U M E : Type 0} (n : ℕ) (HasLog HasImage : U → State → Type 0) (step : World U M → E → World U M) (w : World U M) (es : List E)
     : Type 0 where
   -- no two decisions differ
-  pub same : (a b : Decision) → List·Memᴰ a (run step w es .decided) → List·Memᴰ b (run step w es .decided) → a .mileage ≡ b .mileage
+  pub same : (a b : Decision) → Reported step w es a → Reported step w es b → a .mileage ≡ b .mileage
   -- each was proposed before: by an event before the one that reported it
-  pub proposed : (before after : List E) (e : E) → es ≡ before ++ (e ∷ after) → (d : Decision)
-      → step (run step w before) e .decided ≡ run step w before .decided ++ (d ∷ [])
+  pub proposed : (before after : List E) (e : E) → es ≡ before ++ (e ∷ after) → (d : Decision) → Reports step (run step w before) e d
       → Given (d .mileage) (run step w before)
   -- no log in a round above a decision's has another proposal
-  pub logs : (u : ℕ) → u < n → (s : State) → HasLog (run step w es .units u) s → (d : Decision) → List·Memᴰ d (run step w es .decided) → Locked d s
+  pub logs : (u : ℕ) → u < n → (s : State) → HasLog (run step w es .units u) s → (d : Decision) → Reported step w es d → Locked d s
   -- and no image
-  pub images : (u : ℕ) → u < n → (s : State) → HasImage (run step w es .units u) s → (d : Decision) → List·Memᴰ d (run step w es .decided) → Locked d s
+  pub images : (u : ℕ) → u < n → (s : State) → HasImage (run step w es .units u) s → (d : Decision) → Reported step w es d → Locked d s

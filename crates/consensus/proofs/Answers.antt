@@ -24,7 +24,8 @@ pub record Plain (u : U.Unit) (a : Answer) : Type 0 where
 
 pub plain-received : (u : U.Unit) (m : Message) → Plain u (received u m)
 unfolding skip takeFirst takeSecond close logWrite atRound
-plain-received u m = by-round (Plain u) u m (λ h. record { none = refl; power = refl }) (λ h. kind u refl) (λ h. kind (atRound u (m .round) (m .proposal)) refl)
+plain-received u m =
+    by-round (Plain u) u m (λ h. record { none = refl; power = refl }) (λ h. kind u refl) (λ h. kind (atRound u (m .round) (m .proposal)) refl)
   where
     kind : (v : U.Unit) → v .power ≡ u .power → Plain u (onKind (m .kind) v m)
     kind v same =
@@ -62,6 +63,7 @@ pub propose-keeps : (l : Limits) (u : U.Unit) (v : ℕ) → (unitLog (propose l 
 unfolding propose unless proposed sendFirst
 propose-keeps l u v = go (eqb (numberOf (firstOf (proposeRows l u v))) 0) (firstOf (proposeRows l u v))
   where
-    go : (b : Bool) (k : Refusal) → (unitLog (cond b (proposed u v) (refuses u k) .unit) ≡ unitLog u) × (cond b (proposed u v) (refuses u k) .decision ≡ Blank)
+    go : (b : Bool) (k : Refusal)
+        → (unitLog (cond b (proposed u v) (refuses u k) .unit) ≡ unitLog u) × (cond b (proposed u v) (refuses u k) .decision ≡ Blank)
     go true k = (refl, refl)
     go false k = (refl, refl)

@@ -223,4 +223,5 @@ proper-unit l u w =
     let i = image-facts l (unitImage u) (w .image) in
     let n = log-facts l (unitLog u) (w .log) .numbers .n-high in
     let g = u .settings .engine in
-    (proper-tally l false g (u .settings .n) (u .checks) n (w .checks) (i .checks), proper-tally l (isB g) g (u .settings .n) (u .seconds) n (w .seconds) (i .seconds))
+    let k = u .settings .n in
+    (proper-tally l false g k (u .checks) n (w .checks) (i .checks), proper-tally l (isB g) g k (u .seconds) n (w .seconds) (i .seconds))

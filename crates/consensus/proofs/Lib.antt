@@ -1,5 +1,6 @@
 pub mod Order
 pub mod Branches
+pub mod Laws
 pub mod Stays
 pub mod Answers
 pub mod Full

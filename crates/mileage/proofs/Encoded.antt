@@ -102,32 +102,38 @@ module _ (l : Limits) (sane : Sane l) where
 
   -- the rows of a unit's bytes
   module _ (u : U.Unit) (w : WellFormed l u) where
-    unit-lengths : unitLengths l (logBytes l (unitLog u)) (imageBytes l (unitImage u)) ≡ false
+    abbrev logB : List ℕ
+    logB = logBytes l (unitLog u)
+
+    abbrev imageB : List ℕ
+    imageB = imageBytes l (unitImage u)
+
+    unit-lengths : unitLengths l logB imageB ≡ false
     unfolding unitLengths
     unit-lengths =
         rw (
-          eq-eqb (length (logBytes l (unitLog u))) (logSize l) (read-log (unitLog u) (w .log) .1),
-          eq-eqb (length (imageBytes l (unitImage u))) (imageSize l) (read-image u w .1),
+          eq-eqb (length logB) (logSize l) (read-log (unitLog u) (w .log) .1),
+          eq-eqb (length imageB) (imageSize l) (read-image u w .1),
         )
 
-    unit-log : badLog l (logBytes l (unitLog u)) ≡ false
+    unit-log : badLog l logB ≡ false
     unfolding badLog
     unit-log = rw (read-log (unitLog u) (w .log) .0)
 
-    unit-image : badImage l (logBytes l (unitLog u)) (imageBytes l (unitImage u)) ≡ false
+    unit-image : badImage l logB imageB ≡ false
     unfolding badImage
     unit-image = rw (read-log (unitLog u) (w .log) .0, read-image u w .0, w .fit)
 
     -- where the rows of a call come to those of the step, the call's answer is the step's, as bytes
     same-answer : (rows late : List Row) (a : Answer) (out : List ℕ) → firstOf rows ≡ firstOf late → a .refusal ≡ Refusal.None
         → length out ≡ messageSize l
-        → unlessRow l rows (logBytes l (unitLog u)) (imageBytes l (unitImage u)) out (accepted l (unless late u a)) ≡ answered l (unless late u a)
+        → unlessRow l rows logB imageB out (accepted l (unless late u a)) ≡ answered l (unless late u a)
     unfolding unless messageBytes cleared
     same-answer rows late a out same none size =
         rw (same, eq-eqb (length out) (messageSize l) size) (go (firstOf late) (eqb (numberOf (firstOf late)) 0) refl)
       where
         go : (k : Refusal) (b : Bool) → eqb (numberOf k) 0 ≡ b
-            → cond b (accepted l (cond b a (refuses u k))) (called (numberOf k) (logBytes l (unitLog u)) (imageBytes l (unitImage u)) (emptyBytes l) blankCode)
+            → cond b (accepted l (cond b a (refuses u k))) (called (numberOf k) logB imageB (emptyBytes l) blankCode)
             ≡ answered l (cond b a (refuses u k))
         go k true e = ap (λ r. called (numberOf r) (answered l a .log) (answered l a .image) (answered l a .out) (answered l a .decision)) (sym none)
         go k false e = refl
@@ -139,7 +145,7 @@ module _ (l : Limits) (sane : Sane l) where
           ap (λ p. record { power = p; settings = u .settings; logged = u .logged; current = u .current; checks = u .checks; seconds = u .seconds }) (sym up)
 
       module _ (m : Message) (out : List ℕ) (ok : messageOk l m ≡ true) (size : length out ≡ messageSize l) where
-        deliver-rows : firstOf (deliverCallRows l (logBytes l (unitLog u)) (imageBytes l (unitImage u)) (toBytes (messageFormat l) m) out)
+        deliver-rows : firstOf (deliverCallRows l logB imageB (toBytes (messageFormat l) m) out)
             ≡ firstOf (deliverRows l u m)
         unfolding deliverCallRows deliverRows firstOf badMessage
         deliver-rows =
@@ -157,29 +163,29 @@ module _ (l : Limits) (sane : Sane l) where
               ok,
             )
 
-        pub deliver-encoded : deliverCall l (logBytes l (unitLog u)) (imageBytes l (unitImage u)) (toBytes (messageFormat l) m) out
+        pub deliver-encoded : deliverCall l logB imageB (toBytes (messageFormat l) m) out
             ≡ answered l (deliver l u m)
         unfolding deliverCall deliver
         deliver-encoded =
             rw (read-message m ok .0, read-log (unitLog u) (w .log) .0, read-image u w .0, same-unit)
-            (same-answer (deliverCallRows l (logBytes l (unitLog u)) (imageBytes l (unitImage u)) (toBytes (messageFormat l) m) out) (deliverRows l u m) (received u m) out
+            (same-answer (deliverCallRows l logB imageB (toBytes (messageFormat l) m) out) (deliverRows l u m) (received u m) out
             deliver-rows (plain-received u m .none) size)
 
       module _ (v : ℕ) (out : List ℕ) (size : length out ≡ messageSize l) where
-        propose-rows : firstOf (proposeCallRows l (logBytes l (unitLog u)) (imageBytes l (unitImage u)) v out) ≡ firstOf (proposeRows l u v)
+        propose-rows : firstOf (proposeCallRows l logB imageB v out) ≡ firstOf (proposeRows l u v)
         unfolding proposeCallRows proposeRows firstOf
         propose-rows = rw (unit-lengths, unit-log, unit-image, eq-eqb (length out) (messageSize l) size, up)
 
-        pub propose-encoded : proposeCall l (logBytes l (unitLog u)) (imageBytes l (unitImage u)) v out ≡ answered l (propose l u v)
+        pub propose-encoded : proposeCall l logB imageB v out ≡ answered l (propose l u v)
         unfolding proposeCall propose
         propose-encoded =
             let keeps = propose-keeps l u v in
             rw (read-log (unitLog u) (w .log) .0, read-image u w .0, same-unit)
             (ap₂ (λ (r : Log) (d : ℕ).
-            unlessRow l (proposeCallRows l (logBytes l (unitLog u)) (imageBytes l (unitImage u)) v out) (logBytes l (unitLog u)) (imageBytes l (unitImage u)) out
+            unlessRow l (proposeCallRows l logB imageB v out) logB imageB out
             (called 0 (logBytes l r) (answered l (propose l u v) .image) (answered l (propose l u v) .out) d))
             (sym (keeps .0)) (ap codeOf (sym (keeps .1)))
-            ∙ same-answer (proposeCallRows l (logBytes l (unitLog u)) (imageBytes l (unitImage u)) v out) (proposeRows l u v) (proposed u v) out
+            ∙ same-answer (proposeCallRows l logB imageB v out) (proposeRows l u v) (proposed u v) out
             propose-rows (plain-proposed u v .none) size)
 
   -- key-on of a log's bytes, whatever the image buffer holds
@@ -202,6 +208,7 @@ module _ (l : Limits) (sane : Sane l) where
       rows : NoneHolds (startCallRows l engine n unit entry log image)
       rows = start-refusing l engine n unit entry log image .number .accepted zero
 
-      go : (o : EngineRead) → engineOf engine ≡ o → badSettings o n unit entry ≡ false → Started l engine n unit entry (startCall l engine n unit entry log image)
+      go : (o : EngineRead) → engineOf engine ≡ o → badSettings o n unit entry ≡ false
+          → Started l engine n unit entry (startCall l engine n unit entry log image)
       go Unknown e h = never (sym h)
       go (Is g) e h = record { known = g; letter = e; range = not-false (numbersOk n unit entry) h; answer = rw (rows .0, e, h) }

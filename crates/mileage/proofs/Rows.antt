@@ -1,15 +1,15 @@
 -- What each call of a unit refuses, and what a refusal leaves. Assumes nothing.
 use Prim.Native.Nat.{ℕ}
-use mathlib.Core.Path.{_≡_, refl, sym, ap, _∙_}
+use mathlib.Core.Path.{_≡_, refl, sym, _∙_}
 use mathlib.Core.Bool.{Bool, true, false, cond}
 use mathlib.Core.List.{List, []}
 use native.Mathlib.Omega.{arith}
 use lib.Dec.{eqb}
-use borrow.Author.Tests.{eqb-true, eqb-false}
+use borrow.Author.Tests.{eqb-true}
 use Rattle.tally.specs.Limits.{Limits, blankCode}
 use Rattle.tally.specs.Refusal.{numberOf}
 use Rattle.codec.specs.Messages.{cleared}
-use Rattle.consensus.specs.Rows.{Row, firstOf, Lowest}
+use Rattle.consensus.specs.Rows.{Row, firstOf}
 use Rattle.consensus.proofs.Order.{Rising, first-lowest}
 use Rattle.mileage.specs.Calls.{Called, called, unlessRow, Refusing, startCallRows, startCall, keyOnCallRows, keyOnCall}
 use Rattle.mileage.specs.Calls.{proposeCallRows, proposeCall, deliverCallRows, deliverCall}

@@ -1,13 +1,12 @@
 -- The four calls of a unit over bytes: the rows that refuse, in order, and else the step. Assumes nothing.
 use Prim.Native.Nat.{ℕ}
-use mathlib.Core.Bool.{Bool, true, false, not, cond, _&&_, _||_}
+use mathlib.Core.Bool.{Bool, true, not, cond, _&&_, _||_}
 use mathlib.Core.List.{List, [], _∷_}
 use mathlib.Core.Path.{_≡_}
 use lib.Dec.{eqb}
 use lib.ListN.{length}
 use Rattle.tally.specs.Limits.{Limits, blankCode, logSize, imageSize, messageSize}
 use Rattle.tally.specs.Refusal.{numberOf}
-use Rattle.tally.specs.declared.Engine.{Engine}
 use Rattle.tally.specs.declared.Engine.the-variants.{B}
 use Rattle.tally.specs.declared.Refusal.{Refusal}
 use Rattle.contents.specs.Images.{fits}
