@@ -29,7 +29,7 @@ use Rattle.contents.specs.declared.Kind.the-variants.{Empty, First, Check, Seco
 use Rattle.contents.specs.declared.Message.{Message}
 use Rattle.contents.proofs.Facts.{message-facts}
 use Rattle.contents.proofs.Tests.{both-true}
-use Rattle.consensus.specs.Step.{orElse, decided, nextProposal}
+use Rattle.consensus.specs.Step.{orIfBlank, decided, nextProposal}
 use Rattle.consensus.proofs.Branches.{held-none}
 use Rattle.consensus.proofs.Full.{Proper, voted, others, holds-mileage, full-voted, common-voted, lowest-voted, lowest-blank, lowest-not-split, next-r-blocks}
 use Rattle.consensus.proofs.Full.{next-r-voted}
@@ -192,7 +192,7 @@ module _ (l : Limits) (c : Setup) (X : Message → Type 0) (A : ℕ → Type 0) 
             let a = seconds-of s v e in
             subst (λ r. Quorum c X Check r (Mileage v)) (a .round) (rw (a .estimate) at (sent (a .message) (a .sent) .backed .checked (a .kind) isB))
 
-        go : (e : Estimate) → lowest (gathered t) ≡ e → Sure c X A (r + 1) (orElse e own)
+        go : (e : Estimate) → lowest (gathered t) ≡ e → Sure c X A (r + 1) (orIfBlank e own)
         go Blank e = above own (λ v n. many v (λ s b. lowest-blank (c .n) t proper (rw e refl) s b v)) old
         go Split e = absurd (lowest-not-split (gathered t) e)
         go (Mileage w) e =

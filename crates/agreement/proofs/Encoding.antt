@@ -23,7 +23,7 @@ use Rattle.codec.specs.Images.{imageBytes}
 use Rattle.codec.specs.Messages.{messageFormat}
 use Rattle.codec.specs.Numbers.{bytesOf}
 use Rattle.codec.proofs.Letters.{estimate-code}
-use Rattle.consensus.specs.Deliver as D
+use Rattle.consensus.specs.Methods as D
 use Rattle.consensus.specs.Rows.{Row, firstOf, NoneHolds}
 use Rattle.consensus.specs.Units.{WellFormed, unitLog, unitImage, downUnit, atLog}
 use Rattle.consensus.specs.declared.Answer.{Answer}
@@ -68,18 +68,6 @@ pub record Valid (l : Limits) (n : ℕ) (w : ContentsWorld) : Type 0 where
   pub sent : (m : Message) → List·Memᴰ m (w .sent) → messageOk l m ≡ true
 
 -- ---- units
-
-module _ {U : Type 0} (f : ℕ → U) (u : ℕ) (x : U) where
-  put-here : put f u x u ≡ x
-  put-here = rw (eq-eqb u u refl)
-
-  -- what holds of x at u and of f elsewhere
-  put-all : (P : ℕ → U → Type 0) → P u x → ((v : ℕ) → P v (f v)) → (v : ℕ) → P v (put f u x v)
-  put-all P here there v = go (eqb v u) refl
-    where
-      go : (b : Bool) → eqb v u ≡ b → P v (cond b x (f v))
-      go true e = subst (λ z. P z x) (sym (eqb-true v u e)) here
-      go false e = there v
 
 module _ (l : Limits) (n : ℕ) (b : ByteWorld) (w : ContentsWorld) (enc : Encodes l n b w) (u : ℕ) where
   -- the unit is replaced in both

@@ -99,7 +99,9 @@ module _ (l : Limits) (sane : Sane l) (n : ℕ) (b : ByteWorld) (w : ContentsWor
   unfolding step
   step-follows (proposal u v out) h = of-unit u _ (λ below. proposal-of u below v out)
   step-follows (delivery u k out) h = of-unit u _ (λ below. delivery-of u below k out)
-  step-follows (cut u k out) h = of-unit u _ (λ below. delivering-of u below k out (λ m c. afterCut b u c) (λ e m ok h. on-cut l sane n b w enc valid u below e out m ok k h))
+  step-follows (cut u k out) h =
+      of-unit u _ (λ below.
+      delivering-of u below k out (λ m c. afterCut b u c) (λ e m ok h. on-cut l sane n b w enc valid u below e out m ok k h))
   step-follows (off u) h = of-unit u _ (λ below. on-off l sane n b w enc valid u below)
   step-follows (on u buffer) h = of-unit u _ (λ below. key-on-of u below buffer)
   step-follows (call c) h = inl (on-call l sane n w valid b enc c h)

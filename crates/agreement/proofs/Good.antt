@@ -32,9 +32,9 @@ use Rattle.contents.specs.declared.State.{State}
 use Rattle.contents.proofs.Facts.{message-facts, image-facts}
 use Rattle.contents.proofs.Same.{same-estimate}
 use Rattle.contents.proofs.Tests.{both-true}
-use Rattle.consensus.specs.Deliver.{refuses, unless, proposeRows, propose, deliverRows, deliver, keyOff, keyOn}
+use Rattle.consensus.specs.Methods.{refuses, unless, proposeRows, propose, deliverRows, deliver, keyOff, keyOn}
 use Rattle.consensus.specs.Rows.{Row, firstOf}
-use Rattle.consensus.specs.Step.{silence, quiet, says, withFirst, withSecond, logWrite, atRound, orElse, sendFirst, proposed, voteKind, voteProposal}
+use Rattle.consensus.specs.Step.{silence, quiet, says, withFirst, withSecond, logWrite, atRound, orIfBlank, sendFirst, proposed, voteKind, voteProposal}
 use Rattle.consensus.specs.Step.{takeFirst, isFull, takeSecond, checksWith, close, secondsWith, onKind, skip, received, recovered}
 use Rattle.consensus.specs.Units.{WellFormed, unitImage, atLog, downUnit}
 use Rattle.consensus.specs.declared.Answer.{Answer}
@@ -149,13 +149,13 @@ module _ (c : Setup) (X : Message → Type 0) (A : ℕ → Type 0) where
         fair = record { logged = f .logged; current = s; checks = f .checks; seconds = f .seconds };
         kept = kept;
         message = λ h. (
-          record { proposal = s; estimate = sure-of c X A _ (orElse (x .current .proposal) (Mileage v)) s; checked = λ k. never cc },
+          record { proposal = s; estimate = sure-of c X A _ (orIfBlank (x .current .proposal) (Mileage v)) s; checked = λ k. never cc },
           λ t. never t,
         );
         decision = tt;
       }
     where
-      given : (p : Estimate) → Sure c X A (x .current .round) p → Sure c X A (x .current .round) (orElse p (Mileage v))
+      given : (p : Estimate) → Sure c X A (x .current .round) p → Sure c X A (x .current .round) (orIfBlank p (Mileage v))
       given Blank s = (λ r₀ w b n. s .0 r₀ w b refl, a)
       given Split s = s
       given (Mileage w) s = s

@@ -18,7 +18,7 @@ use Rattle.contents.specs.Logs.{settingsOk}
 use Rattle.contents.specs.declared.Kind.{Kind}
 use Rattle.contents.specs.declared.Kind.the-variants.{Empty, First, Check, Second, Skip}
 use Rattle.contents.specs.declared.Message.{Message}
-use Rattle.consensus.specs.Deliver.{propose, deliver, keyOff, keyOn}
+use Rattle.consensus.specs.Methods.{propose, deliver, keyOff, keyOn}
 use Rattle.consensus.specs.Sound.{From, Sound}
 use Rattle.consensus.specs.Step.{silence, fresh, proposed}
 use Rattle.consensus.specs.Units.{WellFormed, atLog}
@@ -228,8 +228,10 @@ module _ (l : Limits) (c : Setup) (w : ContentsWorld) (inv : Inv l c w) where
   apply-next : (e : Event) → eventUnit e < c .n → Next l c w (apply l w e)
   unfolding apply delivering
   apply-next (proposal u v) b = proposal-next u (inv .units u b) v
-  apply-next (delivery u k) b = at-place (λ o. Next l c w (delivering l w u (λ m a. after w u (m .round) a) o)) (w .sent) same (delivery-next u (inv .units u b)) k
-  apply-next (cut u k) b = at-place (λ o. Next l c w (delivering l w u (λ m a. afterCut w u a) o)) (w .sent) same (cut-next u (inv .units u b)) k
+  apply-next (delivery u k) b =
+      at-place (λ o. Next l c w (delivering l w u (λ m a. after w u (m .round) a) o)) (w .sent) same (delivery-next u (inv .units u b)) k
+  apply-next (cut u k) b =
+      at-place (λ o. Next l c w (delivering l w u (λ m a. afterCut w u a) o)) (w .sent) same (cut-next u (inv .units u b)) k
   apply-next (off u) b = off-next u (inv .units u b) (w .units u) (inv .units u b)
   apply-next (on u) b = on-next u (inv .units u b) (w .units u) (inv .units u b)
 

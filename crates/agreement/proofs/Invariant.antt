@@ -18,7 +18,7 @@ use Rattle.contents.specs.declared.Kind.{Kind}
 use Rattle.contents.specs.declared.Kind.the-variants.{Check, Second}
 use Rattle.contents.specs.declared.Message.{Message}
 use Rattle.contents.specs.declared.State.{State}
-use Rattle.consensus.specs.Deliver.{isSecond}
+use Rattle.consensus.specs.Methods.{isSecond}
 use Rattle.consensus.specs.Sound.{From}
 use Rattle.consensus.specs.Units.{WellFormed}
 use Rattle.consensus.specs.declared.Unit as U

@@ -20,7 +20,7 @@ use Rattle.consensus.specs.Rows.{firstOf}
 use Rattle.consensus.specs.Units.{atLog, downUnit}
 use Rattle.consensus.specs.Step.{says, logWrite, atRound, fresh, recovered, sendFirst, proposed, takeFirst, onFirst, isFull, takeSecond, countCheck}
 use Rattle.consensus.specs.Step.{checksWith, onCheck, nextProposal, close, countSecond, secondsWith, onSecond, onKind, skip, caughtUp, received}
-use Rattle.consensus.specs.Deliver.{forOther, outOfRange, closesLast, unless, proposeRows, propose, deliverRows, deliver, keyOn}
+use Rattle.consensus.specs.Methods.{forOther, outOfRange, closesLast, unless, proposeRows, propose, deliverRows, deliver, keyOn}
 use Rattle.mileage.specs.Calls.{unitLengths, badLog, badSettings, badImage, badMessage, logBytes, messageBytes, startCallRows, startCall, keyOnCallRows}
 use Rattle.mileage.specs.Calls.{keyOnCall, proposeCallRows, proposeCall, deliverCallRows, deliverCall}
 use Rattle.agreement.specs.Bytes.{ByteWorld, up, Event, proposal, delivery, cut, on, begun, after, afterProposal, afterCut, afterKeyOn, proposalOf}

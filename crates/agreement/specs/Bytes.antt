@@ -99,7 +99,8 @@ proposalOf l w u v out none = w
 proposalOf l w u v out (some image) = afterProposal w u v (proposeCall l (w .units u .log) image v out)
 
 -- a delivery and a cut of it are the same call, and f is what the event makes of the message and the answer
-unfoldable pub delivering : Limits → ByteWorld → ℕ → List ℕ → (List ℕ → Called → ByteWorld) → Option (List ℕ) → Option (List ℕ) → ByteWorld
+unfoldable pub delivering : Limits → ByteWorld → ℕ → List ℕ → (List ℕ → Called → ByteWorld) → Option (List ℕ) → Option (List ℕ)
+    → ByteWorld
 delivering l w u out f (some image) (some m) = f m (deliverCall l (w .units u .log) image m out)
 delivering l w u out f none m = w
 delivering l w u out f (some image) none = w

@@ -12,7 +12,7 @@ use Rattle.contents.specs.declared.Kind.{Kind}
 use Rattle.contents.specs.declared.Kind.the-variants.{Empty, First, Check, Second, Skip}
 use Rattle.contents.specs.declared.Message.{Message}
 use Rattle.contents.specs.declared.State.{State}
-use Rattle.consensus.specs.Deliver.{propose, deliver, keyOff, keyOn, isUp}
+use Rattle.consensus.specs.Methods.{propose, deliver, keyOff, keyOn, isUp}
 use Rattle.consensus.specs.Step.{fresh}
 use Rattle.consensus.specs.declared.Answer.{Answer}
 use Rattle.consensus.specs.declared.Unit as U

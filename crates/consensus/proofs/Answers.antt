@@ -9,7 +9,7 @@ use Rattle.tally.specs.Limits.{Limits}
 use Rattle.tally.specs.declared.Estimate.the-variants.{Blank}
 use Rattle.tally.specs.declared.Refusal.{Refusal}
 use Rattle.contents.specs.declared.Message.{Message}
-use Rattle.consensus.specs.Deliver.{refuses, unless, proposeRows, propose, deliverRows, deliver}
+use Rattle.consensus.specs.Methods.{refuses, unless, proposeRows, propose, deliverRows, deliver}
 use Rattle.consensus.specs.Rows.{Row, firstOf}
 use Rattle.consensus.specs.Step.{logWrite, atRound, sendFirst, proposed, takeFirst, takeSecond, checksWith, close, secondsWith, onKind, skip, received}
 use Rattle.consensus.specs.Units.{unitLog}
@@ -59,11 +59,15 @@ unfolding deliver
 deliver-power l u m = unless-power (deliverRows l u m) u (received u m) (plain-received u m .power)
 
 -- a proposal writes no log and decides nothing
+pub proposed-keeps : (u : U.Unit) (v : ℕ) → (unitLog (proposed u v .unit) ≡ unitLog u) × (proposed u v .decision ≡ Blank)
+unfolding proposed sendFirst
+proposed-keeps u v = (refl, refl)
+
 pub propose-keeps : (l : Limits) (u : U.Unit) (v : ℕ) → (unitLog (propose l u v .unit) ≡ unitLog u) × (propose l u v .decision ≡ Blank)
-unfolding propose unless proposed sendFirst
+unfolding propose unless
 propose-keeps l u v = go (eqb (numberOf (firstOf (proposeRows l u v))) 0) (firstOf (proposeRows l u v))
   where
     go : (b : Bool) (k : Refusal)
         → (unitLog (cond b (proposed u v) (refuses u k) .unit) ≡ unitLog u) × (cond b (proposed u v) (refuses u k) .decision ≡ Blank)
-    go true k = (refl, refl)
+    go true k = proposed-keeps u v
     go false k = (refl, refl)

@@ -19,7 +19,7 @@ use Rattle.contents.specs.declared.Kind.{Kind}
 use Rattle.contents.specs.declared.Kind.the-variants.{Empty, First, Check, Second, Skip}
 use Rattle.contents.specs.declared.Message.{Message}
 use Rattle.contents.proofs.Tests.{both-true}
-use Rattle.consensus.specs.Deliver.{refuses, unless}
+use Rattle.consensus.specs.Methods.{refuses, unless}
 use Rattle.consensus.specs.Rows.{Row, rowNumber, firstOf, NoneHolds}
 use Rattle.consensus.specs.Step.{quiet, withChecks, withSeconds}
 use Rattle.consensus.specs.Step.{takeFirst, onFirst, isFull, takeSecond, countCheck, checksWith, onCheck}

@@ -56,7 +56,7 @@ holds-mileage v Split h = never h
 holds-mileage v (Mileage w) h = ap Mileage (eqb-true w v h)
 
 -- some unit passes where the count is not 0
-pub some-unit : (n : ℕ) (P : ℕ → Bool) → 1 ≤ count n P → (s : ℕ) × ((s < n) × (P s ≡ true))
+some-unit : (n : ℕ) (P : ℕ → Bool) → 1 ≤ count n P → (s : ℕ) × ((s < n) × (P s ≡ true))
 some-unit zero P h = absurd (omega arith)
 some-unit (suc k) P h = go (some-unit k P) (P k) refl h
   where
@@ -199,10 +199,6 @@ first-not-split P f (e ∷ es) h = go (first-not-split P f es) (P e) refl h
 pub lowest-not-split : (es : List Estimate) → lowest es ≡ Split → ⊥
 unfolding lowest
 lowest-not-split es h = first-not-split anyMileage refl es h
-
-pub majority-not-split : (k : ℕ) (es : List Estimate) → majority k es ≡ Split → ⊥
-unfolding majority leads
-majority-not-split k es h = first-not-split (leads k es) refl es h
 
 -- the tallies of a well-formed unit are proper
 proper-tally : (l : Limits) (split : Bool) (g : Engine) (n : ℕ) (t : Tally) → n ≤ maxUnits → Typed t → TallyFacts l split g n t → Proper n t

@@ -22,7 +22,7 @@ use Rattle.contents.specs.declared.Kind.the-variants.{Empty, First, Check, Seco
 use Rattle.contents.specs.declared.Message.{Message}
 use Rattle.contents.specs.declared.Settings.{Settings}
 use Rattle.contents.specs.declared.State.{State}
-use Rattle.consensus.specs.Deliver.{refuses, unless, propose, proposeRows, deliver, deliverRows, keyOff, keyOn}
+use Rattle.consensus.specs.Methods.{refuses, unless, propose, proposeRows, deliver, deliverRows, keyOff, keyOn}
 use Rattle.consensus.specs.Rows.{Row, firstOf, NoneHolds}
 use Rattle.consensus.specs.Step.{says, logWrite, atRound, sendFirst, proposed, takeFirst, onFirst, isFull, takeSecond, countCheck, checksWith}
 use Rattle.consensus.specs.Step.{onCheck, decided, nextProposal, close, countSecond, secondsWith, onSecond, onKind, skip, caughtUp, received}

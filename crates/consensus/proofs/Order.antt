@@ -24,10 +24,10 @@ module _ (P : List Row → ℕ → Type 0) (empty : P [] 0)
     (here : (r : Row) (rs : List Row) → r .holds ≡ true → P (r ∷ rs) (rowNumber r))
     (later : (r : Row) (rs : List Row) → r .holds ≡ false → P rs (numberOf (firstOf rs)) → P (r ∷ rs) (numberOf (firstOf rs))) where
   -- induction over the rows up to the first that holds
-  by-rows : (rows : List Row) → P rows (numberOf (firstOf rows))
+  up-to-first : (rows : List Row) → P rows (numberOf (firstOf rows))
   unfolding firstOf
-  by-rows [] = empty
-  by-rows (r ∷ rs) = go (r .holds) refl (by-rows rs)
+  up-to-first [] = empty
+  up-to-first (r ∷ rs) = go (r .holds) refl (up-to-first rs)
     where
       go : (b : Bool) → r .holds ≡ b → P rs (numberOf (firstOf rs)) → P (r ∷ rs) (numberOf (cond b (r .refusal) (firstOf rs)))
       go true h ih = here r rs h
@@ -35,7 +35,7 @@ module _ (P : List Row → ℕ → Type 0) (empty : P [] 0)
 
 pub first-lowest : (rows : List Row) → Rising 0 rows → Lowest rows (numberOf (firstOf rows))
 first-lowest rows up =
-    by-rows (λ rows k. (j : ℕ) → Rising j rows → Lowest rows k)
+    up-to-first (λ rows k. (j : ℕ) → Rising j rows → Lowest rows k)
     (λ j up. record { accepted = λ e. tt; none = λ n. refl; refused = λ n. absurd (n refl); lowest = λ i h. absurd h })
     (λ r rs h j up.
     record {

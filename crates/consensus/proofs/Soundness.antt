@@ -35,12 +35,12 @@ use Rattle.contents.specs.declared.Settings.{Settings}
 use Rattle.contents.proofs.Facts.{StateFacts, numbers-facts, message-facts}
 use Rattle.contents.proofs.Same.{same-engine, same-estimate, estimate-same}
 use Rattle.contents.proofs.Tests.{both-true, or-left}
-use Rattle.consensus.specs.Deliver.{forOther, outOfRange, isSecond, closesLast, refuses, unless}
-use Rattle.consensus.specs.Deliver.{propose, proposeRows, deliver, deliverRows, keyOff, keyOn}
+use Rattle.consensus.specs.Methods.{forOther, outOfRange, isSecond, closesLast, refuses, unless}
+use Rattle.consensus.specs.Methods.{propose, proposeRows, deliver, deliverRows, keyOff, keyOn}
 use Rattle.consensus.specs.Rows.{row, NoneHolds}
 use Rattle.consensus.specs.Sound.{From, Sound}
 use Rattle.consensus.specs.Step.{quiet, sends, says, silence, withCurrent, withProposal, withFirst, withSecond, withChecks, withSeconds, logWrite}
-use Rattle.consensus.specs.Step.{atRound, clean, fresh, recovered, orElse, sendFirst, proposed, voteKind, voteProposal, takeFirst, isFull, takeSecond}
+use Rattle.consensus.specs.Step.{atRound, clean, fresh, recovered, orIfBlank, sendFirst, proposed, voteKind, voteProposal, takeFirst, isFull, takeSecond}
 use Rattle.consensus.specs.Step.{checksWith, secondsWith, close, onKind, skip, received}
 use Rattle.consensus.specs.Units.{WellFormed, unitLog, downUnit, atLog}
 use Rattle.consensus.specs.declared.Power.{Power}
@@ -283,7 +283,7 @@ module _ (l : Limits) (u : U.Unit) (w : WellFormed l u) where
   sound-key-on = sound-key Up _
 
 -- a proposal kept or given is a mileage
-or-else-mileage : (l : Limits) (a : Estimate) (v : ℕ) → mileageOrBlank l a ≡ true → inRange l v ≡ true → isMileage l (orElse a (Mileage v)) ≡ true
+or-else-mileage : (l : Limits) (a : Estimate) (v : ℕ) → mileageOrBlank l a ≡ true → inRange l v ≡ true → isMileage l (orIfBlank a (Mileage v)) ≡ true
 unfolding mileageOrBlank
 or-else-mileage l Blank v h r = r
 or-else-mileage l Split v h r = never h
@@ -299,7 +299,7 @@ sound-propose l u v w =
     p = parts l u w
 
     e : Estimate
-    e = orElse (u .current .proposal) (Mileage v)
+    e = orIfBlank (u .current .proposal) (Mileage v)
 
     next : U.Unit
     next = withCurrent u (withProposal (u .current) e)
@@ -362,7 +362,7 @@ sound-deliver l u m w = by-rows (Sound l u) (deliverRows l u m) u _ (refl, (refl
         i (λ _ _ full. absurd (not-full l u m p (m .round) (m .proposal) full)))
       where
         i : Given l (u .settings) m
-        i = given l (u .settings) m (not-false _ (n .1 .0)) (n .1 .1 .0)
+        i = given l (u .settings) m (not-false _ (n .0)) (n .1 .1 .0)
 
 pub well-fresh : (l : Limits) (s : Settings) → settingsOk s ≡ true → WellFormed l (fresh s)
 unfolding fresh logOk stateOk mileageOrBlank secondFits

@@ -1,5 +1,5 @@
 pub mod Rows
 pub mod Units
 pub mod Step
-pub mod Deliver
+pub mod Methods
 pub mod Sound

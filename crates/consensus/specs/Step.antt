@@ -1,4 +1,4 @@
--- The step of both engines: Algorithm 1 (B) and Algorithm 2 (R) of the source, with their line numbers; B and R have the same up to 26.
+-- The step of both engines: Algorithm 1 (B) and Algorithm 2 (R) of the source, with their line numbers; lines 1 to 26 are numbered alike in both.
 -- The scope paper's five readings of the source are named where they act. Assumes nothing.
 use Prim.Native.Nat.{ℕ, _+_}
 use mathlib.Core.Bool.{Bool, not, cond, _&&_}
@@ -86,7 +86,7 @@ logWrite u s = record { power = u .power; settings = u .settings; logged = s; cu
 abbrev pub clean : ℕ → Estimate → State
 clean r p = record { round = r; proposal = p; first = Blank; second = Blank }
 
--- the unit takes a round and a proposal, and blanks both estimates and all marks: lines 13 to 16; B 43 to 46, R 33
+-- the unit takes a round and a proposal, and blanks both estimates and all marks: lines 13 to 16; B 43 to 46, R 32 and 33
 unfoldable pub atRound : U.Unit → ℕ → Estimate → U.Unit
 atRound u r p = record { power = u .power; settings = u .settings; logged = u .logged; current = clean r p; checks = noMarks; seconds = noMarks }
 
@@ -103,16 +103,16 @@ recovered u = atLog Up (u .settings) (u .logged)
 -- ---- lines 17 to 20: to propose
 
 -- a where it is not blank, else b
-abbrev pub orElse : Estimate → Estimate → Estimate
-orElse a b = cond (isBlank a) b a
+abbrev pub orIfBlank : Estimate → Estimate → Estimate
+orIfBlank a b = cond (isBlank a) b a
 
--- line 20: FIRST goes out with round and proposal
+-- line 20: FIRST goes out with round and proposal, also where the proposal was there: it stands outside the test of line 18
 unfoldable pub sendFirst : U.Unit → Estimate → Answer
 sendFirst u p = sends (withCurrent u (withProposal (u .current) p)) First everyone p p
 
 -- lines 18 and 19: if the proposal is blank it becomes the mileage given
 unfoldable pub proposed : U.Unit → ℕ → Answer
-proposed u v = sendFirst u (orElse (u .current .proposal) (Mileage v))
+proposed u v = sendFirst u (orIfBlank (u .current .proposal) (Mileage v))
 
 -- ---- lines 22 to 26: FIRST
 
@@ -137,11 +137,12 @@ onFirst u m = cond (isBlank (u .current .first)) (takeFirst u (m .proposal)) (qu
 
 -- ---- B 27 to 35: CHECK
 
--- B 29 and 39, R 30: the marks are counted to find a quorum
+-- B 29 and 39, R 30: the marks are counted to find a quorum; at least, since the count of a well-formed image is below it
 unfoldable pub isFull : U.Unit → Tally → Bool
 isFull u t = leb (quorumOf (u .settings .engine) (u .settings .n)) (ones (t .marks))
 
--- B 34 and 35: CHECK marks are cleared; log; SECOND goes out with the estimate and the unit's proposal
+-- B 34 and 35, whether common or split: log; SECOND goes out with the estimate and the unit's proposal. That CHECK marks are cleared is the
+-- scope paper's
 unfoldable pub takeSecond : U.Unit → Estimate → Answer
 takeSecond u e = sends (withChecks (logWrite u (withSecond (u .current) e)) noMarks) Second everyone e (u .current .proposal)
 
@@ -166,17 +167,19 @@ decided Blank = Blank
 decided Split = Blank
 decided (Mileage v) = Mileage v
 
--- B 42 and 43: the mileage seen, if any, else the proposal kept; R 32 and 33: the majority of those gathered, or blank (reading 4)
+-- B 42 and 43: the mileage seen, if any (the lowest sender's, where an image no history made holds several), else the proposal kept;
+-- R 32 and 33: the majority of those gathered, or blank (reading 4)
 unfoldable pub nextProposal : Engine → ℕ → Tally → Estimate → Estimate
-nextProposal B n t own = orElse (lowest (gathered t)) own
+nextProposal B n t own = orIfBlank (lowest (gathered t)) own
 nextProposal R n t own = majority (majorityOf n) (gathered t)
 
--- B 43 to 46, R 32 and 33: the round rises by 1, estimates and marks are blanked; no log write
+-- B 40 to 46, R 31 to 33: the round rises by 1, also where no mileage is seen, estimates and marks are blanked; no log write
 unfoldable pub close : U.Unit → Tally → Answer
 close u t =
     gives (atRound u (u .current .round + 1) (nextProposal (u .settings .engine) (u .settings .n) t (u .current .proposal))) silence
     (decided (common (gathered t)))
 
+-- B 39, R 30
 unfoldable pub countSecond : U.Unit → Tally → Answer
 countSecond u t = cond (isFull u t) (close u t) (quiet (withSeconds u t))
 
@@ -184,11 +187,13 @@ countSecond u t = cond (isFull u t) (close u t) (quiet (withSeconds u t))
 unfoldable pub secondsWith : U.Unit → Message → Tally
 secondsWith u m = mark (u .seconds) (m .sender) (m .estimate)
 
+-- a marked sender adds nothing (reading 1)
 unfoldable pub onSecond : U.Unit → Message → Answer
 onSecond u m = cond (isMarked (u .seconds .marks) (m .sender)) (quiet u) (countSecond u (secondsWith u m))
 
 -- ---- lines 8 to 16: any message
 
+-- an empty message is refused before
 unfoldable pub onKind : Kind → U.Unit → Message → Answer
 onKind Empty u m = quiet u
 onKind First u m = onFirst u m

@@ -1,4 +1,4 @@
-// The unit, and what a step answers. The step itself is in specs/Step; its methods come with the calls.
+// The unit, and what a step answers. The step itself is in specs/Step.
 use contents::Message;
 use contents::Settings;
 use contents::State;

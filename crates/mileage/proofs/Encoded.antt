@@ -12,12 +12,9 @@ use Rattle.tally.specs.declared.Engine.{Engine}
 use Rattle.tally.specs.declared.Refusal.{Refusal}
 use Rattle.tally.proofs.Never.{never}
 use Rattle.contents.specs.Logs.{logOk, numbersOk, settingsOk}
-use Rattle.contents.specs.Messages.{kindOk, messageOk}
-use Rattle.contents.specs.declared.Kind.{Kind}
-use Rattle.contents.specs.declared.Kind.the-variants.{Empty, First, Check, Second, Skip}
+use Rattle.contents.specs.Messages.{messageOk}
 use Rattle.contents.specs.declared.Log.{Log}
 use Rattle.contents.specs.declared.Message.{Message}
-use Rattle.contents.proofs.Facts.{message-facts}
 use Rattle.codec.specs.Codes.{codeOf, engineOf}
 use Rattle.codec.specs.Formats.{reading, Format, toBytes}
 use Rattle.codec.specs.Images.{imageFormat, readImage, imageBytes}
@@ -30,10 +27,10 @@ use Rattle.codec.proofs.LogFormat as log
 use Rattle.codec.proofs.MessageFormat as message
 use Rattle.codec.proofs.RoundTrips.{Lawful, read-written}
 use Rattle.codec.proofs.Rows.{length-pack}
-use Rattle.consensus.specs.Deliver.{propose, deliver, keyOn, proposeRows, deliverRows, unless, refuses}
+use Rattle.consensus.specs.Methods.{propose, deliver, proposeRows, deliverRows, unless, refuses}
 use Rattle.consensus.specs.Rows.{Row, firstOf, NoneHolds}
-use Rattle.consensus.specs.Step.{received, proposed, fresh}
-use Rattle.consensus.proofs.Answers.{plain-received, plain-proposed, propose-keeps}
+use Rattle.consensus.specs.Step.{received, recovered, proposed, fresh}
+use Rattle.consensus.proofs.Answers.{plain-received, plain-proposed, proposed-keeps}
 use Rattle.consensus.specs.Units.{WellFormed, unitLog, unitImage, upUnit, downUnit}
 use Rattle.consensus.specs.declared.Answer.{Answer}
 use Rattle.consensus.specs.declared.Power.the-variants.{Up}
@@ -63,18 +60,6 @@ accepted l a = called 0 (answered l a .log) (answered l a .image) (answered l a 
 length-bytes : {A : Type 0} (f : Format A) (Typed : A → Type 0) (law : Lawful f Typed) (a : A) → Typed a → f .ok a ≡ true
     → length (toBytes f a) ≡ f .size
 length-bytes f Typed law a t ok = length-pack (f .widths) _ (law .fit a t ok) ∙ sym (law .sized)
-
--- a message that is well formed is not empty
-pub message-bytes : (l : Limits) (m : Message) → messageOk l m ≡ true → messageBytes l (m .kind) m ≡ toBytes (messageFormat l) m
-unfolding messageBytes kindOk
-message-bytes l m ok = go (m .kind) (message-facts l m ok .kind)
-  where
-    go : (k : Kind) → kindOk l k m ≡ true → messageBytes l k m ≡ toBytes (messageFormat l) m
-    go Empty h = never h
-    go First h = refl
-    go Check h = refl
-    go Second h = refl
-    go Skip h = refl
 
 module _ (l : Limits) (sane : Sane l) where
   pub read-log : (r : Log) → logOk l r ≡ true → (readLog l (logBytes l r) ≡ reading 0 r) × (length (logBytes l r) ≡ logSize l)
@@ -124,17 +109,15 @@ module _ (l : Limits) (sane : Sane l) where
     unfolding badImage
     unit-image = rw (read-log (unitLog u) (w .log) .0, read-image u w .0, w .fit)
 
-    -- where the rows of a call come to those of the step, the call's answer is the step's, as bytes
+    -- where the rows of a call come to those of the method, the call's answer is the method's, as bytes
     same-answer : (rows late : List Row) (a : Answer) (out : List ℕ) → firstOf rows ≡ firstOf late → a .refusal ≡ Refusal.None
-        → length out ≡ messageSize l
-        → unlessRow l rows logB imageB out (accepted l (unless late u a)) ≡ answered l (unless late u a)
+        → length out ≡ messageSize l → unlessRow l rows logB imageB out (accepted l a) ≡ answered l (unless late u a)
     unfolding unless messageBytes cleared
     same-answer rows late a out same none size =
         rw (same, eq-eqb (length out) (messageSize l) size) (go (firstOf late) (eqb (numberOf (firstOf late)) 0) refl)
       where
         go : (k : Refusal) (b : Bool) → eqb (numberOf k) 0 ≡ b
-            → cond b (accepted l (cond b a (refuses u k))) (called (numberOf k) logB imageB (emptyBytes l) blankCode)
-            ≡ answered l (cond b a (refuses u k))
+            → cond b (accepted l a) (called (numberOf k) logB imageB (emptyBytes l) blankCode) ≡ answered l (cond b a (refuses u k))
         go k true e = ap (λ r. called (numberOf r) (answered l a .log) (answered l a .image) (answered l a .out) (answered l a .decision)) (sym none)
         go k false e = refl
 
@@ -179,18 +162,16 @@ module _ (l : Limits) (sane : Sane l) where
         pub propose-encoded : proposeCall l logB imageB v out ≡ answered l (propose l u v)
         unfolding proposeCall propose
         propose-encoded =
-            let keeps = propose-keeps l u v in
             rw (read-log (unitLog u) (w .log) .0, read-image u w .0, same-unit)
             (ap₂ (λ (r : Log) (d : ℕ).
             unlessRow l (proposeCallRows l logB imageB v out) logB imageB out
-            (called 0 (logBytes l r) (answered l (propose l u v) .image) (answered l (propose l u v) .out) d))
-            (sym (keeps .0)) (ap codeOf (sym (keeps .1)))
-            ∙ same-answer (proposeCallRows l logB imageB v out) (proposeRows l u v) (proposed u v) out
-            propose-rows (plain-proposed u v .none) size)
+            (called 0 (logBytes l r) (answered l (proposed u v) .image) (answered l (proposed u v) .out) d))
+            (sym (proposed-keeps u v .0)) (ap codeOf (sym (proposed-keeps u v .1)))
+            ∙ same-answer (proposeCallRows l logB imageB v out) (proposeRows l u v) (proposed u v) out propose-rows (plain-proposed u v .none) size)
 
   -- key-on of a log's bytes, whatever the image buffer holds
   pub key-on-encoded : (r : Log) (image : List ℕ) → logOk l r ≡ true → length image ≡ imageSize l
-      → keyOnCall l (logBytes l r) image ≡ called 0 (logBytes l r) (imageBytes l (unitImage (keyOn (downUnit r) .unit))) [] blankCode
+      → keyOnCall l (logBytes l r) image ≡ called 0 (logBytes l r) (imageBytes l (unitImage (recovered (downUnit r)))) [] blankCode
   unfolding keyOnCall keyOnCallRows firstOf badLog unitLengths
   key-on-encoded r image ok size =
       rw (

@@ -24,9 +24,9 @@ use Rattle.codec.specs.Logs.{logFormat, readLog}
 use Rattle.codec.specs.Messages.{messageFormat, readMessage, emptyBytes, cleared}
 use Rattle.codec.specs.declared.EngineRead.{EngineRead}
 use Rattle.codec.specs.declared.EngineRead.the-variants.{Is, Unknown}
-use Rattle.consensus.specs.Deliver.{propose, deliver, keyOn, forOther, outOfRange, closesLast}
+use Rattle.consensus.specs.Methods.{forOther, outOfRange, closesLast}
 use Rattle.consensus.specs.Rows.{Row, row, firstOf, Lowest}
-use Rattle.consensus.specs.Step.{fresh}
+use Rattle.consensus.specs.Step.{fresh, recovered, proposed, received}
 use Rattle.consensus.specs.Units.{unitLog, unitImage, upUnit, downUnit}
 use Rattle.consensus.specs.declared.Unit as U
 
@@ -124,7 +124,7 @@ keyOnCallRows l log image =
 unfoldable pub keyOnCall : Limits → List ℕ → List ℕ → Called
 keyOnCall l log image =
     unlessRow l (keyOnCallRows l log image) log image []
-    (called 0 log (imageBytes l (unitImage (keyOn (downUnit (readLog l log .contents)) .unit))) [] blankCode)
+    (called 0 log (imageBytes l (unitImage (recovered (downUnit (readLog l log .contents))))) [] blankCode)
 
 unfoldable pub proposeCallRows : Limits → List ℕ → List ℕ → ℕ → List ℕ → List Row
 proposeCallRows l log image mileage out =
@@ -138,7 +138,7 @@ proposeCallRows l log image mileage out =
 unfoldable pub proposeCall : Limits → List ℕ → List ℕ → ℕ → List ℕ → Called
 proposeCall l log image mileage out =
     unlessRow l (proposeCallRows l log image mileage out) log image out
-    (let a = propose l (unitOf l log image) mileage in
+    (let a = proposed (unitOf l log image) mileage in
     called 0 log (imageBytes l (unitImage (a .unit))) (messageBytes l (a .message .kind) (a .message)) blankCode)
 
 unfoldable pub deliverCallRows : Limits → List ℕ → List ℕ → List ℕ → List ℕ → List Row
@@ -154,11 +154,11 @@ deliverCallRows l log image message out =
 unfoldable pub deliverCall : Limits → List ℕ → List ℕ → List ℕ → List ℕ → Called
 deliverCall l log image message out =
     unlessRow l (deliverCallRows l log image message out) log image out
-    (let a = deliver l (unitOf l log image) (readMessage l message .contents) in
+    (let a = received (unitOf l log image) (readMessage l message .contents) in
     called 0 (logBytes l (unitLog (a .unit))) (imageBytes l (unitImage (a .unit))) (messageBytes l (a .message .kind) (a .message)) (codeOf (a .decision)))
 
--- one theorem a call: the number is 0 exactly where no row's condition holds, and else the lowest of a row that does; after a refusal log and
--- image keep their bytes, an output buffer of a message's length is zeros, one of another length keeps its bytes, and the decision is blank
+-- the number is 0 exactly where no row's condition holds, and else the lowest of a row that does; after a refusal log and image keep their
+-- bytes, an output buffer of a message's length is zeros, one of another length keeps its bytes, and the decision is blank
 pub record Refusing (l : Limits) (rows : List Row) (log image out : List ℕ) (c : Called) : Type 0 where
   pub number : Lowest rows (c .number)
   pub refused : (c .number ≡ 0 → ⊥) → c ≡ called (c .number) log image (cleared l out) blankCode

@@ -1,4 +1,4 @@
--- The four calls of a unit: what is refused first, and else the step. Assumes nothing.
+-- The methods of a unit: what is refused first, and else the step. Assumes nothing.
 use Prim.Native.Nat.{ℕ}
 use mathlib.Core.Bool.{Bool, true, false, not, cond, _&&_, _||_}
 use mathlib.Core.List.{List, [], _∷_}
@@ -49,7 +49,7 @@ isSecond Check = false
 isSecond Second = true
 isSecond Skip = false
 
--- 7: this SECOND would close the last round: both are there, its sender is unmarked, and with it the quorum is there
+-- 7: this SECOND would close the last round: message and unit are in it, its sender is unmarked, and with it the quorum is there
 unfoldable pub closesLast : Limits → U.Unit → Message → Bool
 closesLast l u m =
     isSecond (m .kind)
@@ -58,7 +58,7 @@ closesLast l u m =
     && not (isMarked (u .seconds .marks) (m .sender))
     && isFull u (secondsWith u m)
 
--- ---- the calls
+-- ---- the methods
 
 -- a refusal changes nothing, sends nothing and decides nothing
 abbrev pub refuses : U.Unit → Refusal → Answer
@@ -68,6 +68,7 @@ refuses u k = record { refusal = k; unit = u; message = silence; decision = Blan
 unfoldable pub unless : List Row → U.Unit → Answer → Answer
 unless rows u a = cond (eqb (numberOf (firstOf rows)) 0) a (refuses u (firstOf rows))
 
+-- the lowest number first, but 9 before 5, 6 and 7, as on the bench
 unfoldable pub proposeRows : Limits → U.Unit → ℕ → List Row
 proposeRows l u v = row Refusal.Power (not (isUp (u .power))) ∷ row Refusal.Mileage (outOfRange l v) ∷ []
 
@@ -76,8 +77,8 @@ propose l u v = unless (proposeRows l u v) u (proposed u v)
 
 unfoldable pub deliverRows : Limits → U.Unit → Message → List Row
 deliverRows l u m =
-    row Refusal.Power (not (isUp (u .power)))
-    ∷ row Refusal.Message (not (messageOk l m))
+    row Refusal.Message (not (messageOk l m))
+    ∷ row Refusal.Power (not (isUp (u .power)))
     ∷ row Refusal.Addressee (forOther (u .settings) m)
     ∷ row Refusal.LastRound (closesLast l u m)
     ∷ []
@@ -85,9 +86,10 @@ deliverRows l u m =
 unfoldable pub deliver : Limits → U.Unit → Message → Answer
 deliver l u m = unless (deliverRows l u m) u (received u m)
 
--- key-off: the image is lost
+-- key-off (the scope paper's term): the image is lost
 unfoldable pub keyOff : U.Unit → Answer
 keyOff u = unless (row Refusal.Power (not (isUp (u .power))) ∷ []) u (quiet (downUnit (unitLog u)))
 
+-- key-on (the scope paper's term)
 unfoldable pub keyOn : U.Unit → Answer
 keyOn u = unless (row Refusal.Power (isUp (u .power)) ∷ []) u (quiet (recovered u))
