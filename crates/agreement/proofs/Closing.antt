@@ -33,8 +33,8 @@ use Rattle.consensus.specs.Step.{orIfBlank, decided, nextProposal}
 use Rattle.consensus.proofs.Branches.{held-none}
 use Rattle.consensus.proofs.Full.{Proper, voted, others, holds-mileage, full-voted, common-voted, lowest-voted, lowest-blank, lowest-not-split, next-r-blocks}
 use Rattle.consensus.proofs.Full.{next-r-voted}
-use Rattle.agreement.specs.Worlds.{Setup}
-use Rattle.agreement.proofs.Votes.{Of, of, holds-not, Many, meet, isVote, Vote, Unique, quorum, Quorum, Blocked, Sure, Chosen, one-quorum}
+use Rattle.agreement.specs.Worlds.{Setup, Many}
+use Rattle.agreement.proofs.Votes.{Of, of, holds-not, meet, isVote, Vote, Unique, quorum, Quorum, Blocked, Sure, Chosen, one-quorum}
 use Rattle.agreement.proofs.Invariant.{Sent, Tallied, vote-sure, quorum-sure}
 
 -- ---- what well-formed votes say

@@ -69,28 +69,29 @@ pub record Valid (l : Limits) (n : ℕ) (w : ContentsWorld) : Type 0 where
 
 -- ---- units
 
-module _ (l : Limits) (n : ℕ) (b : ByteWorld) (w : ContentsWorld) (enc : Encodes l n b w) (u : ℕ) where
-  -- the unit is replaced in both
-  encodes-change : (x : UnitBytes) (y : U.Unit) → (u < n → x ≡ unitBytes l y) → Encodes l n (change b u x) (change w u y)
-  encodes-change x y same = record { units = both; sent = enc .sent; proposed = enc .proposed; decided = enc .decided }
+module _ (l : Limits) (n : ℕ) (b : ByteWorld) (w : ContentsWorld) (enc : Encodes l n b w) (u : ℕ) (x : UnitBytes) where
+  -- unit u has the bytes x, and f has these and the others'
+  put-bytes : (f : ℕ → U.Unit) → (u < n → x ≡ unitBytes l (f u)) → ((v : ℕ) → eqb v u ≡ false → f v ≡ w .units v)
+      → (v : ℕ) → v < n → put (b .units) u x v ≡ unitBytes l (f v)
+  put-bytes f here there v h = go (eqb v u) refl
     where
-      both : (v : ℕ) → v < n → put (b .units) u x v ≡ unitBytes l (put (w .units) u y v)
-      both v h = go (eqb v u) refl
-        where
-          go : (t : Bool) → eqb v u ≡ t → cond t x (b .units v) ≡ unitBytes l (cond t y (w .units v))
-          go true e = same (subst (λ z. z < n) (eqb-true v u e) h)
-          go false e = enc .units v h
+      go : (t : Bool) → eqb v u ≡ t → cond t x (b .units v) ≡ unitBytes l (f v)
+      go true e = let q = eqb-true v u e in rw q (here (subst (λ z. z < n) q h))
+      go false e = enc .units v h ∙ ap (unitBytes l) (sym (there v e))
+
+  -- the unit is replaced in both
+  encodes-change : (y : U.Unit) → (u < n → x ≡ unitBytes l y) → Encodes l n (change b u x) (change w u y)
+  encodes-change y same =
+      record {
+        units = put-bytes (put (w .units) u y) (λ h. rw (eq-eqb u u refl) (same h)) (λ v e. rw e);
+        sent = enc .sent;
+        proposed = enc .proposed;
+        decided = enc .decided;
+      }
 
   -- the unit has the same bytes as before
-  pub encodes-same : (x : UnitBytes) → (u < n → x ≡ unitBytes l (w .units u)) → Encodes l n (change b u x) w
-  encodes-same x same = record { units = both; sent = enc .sent; proposed = enc .proposed; decided = enc .decided }
-    where
-      both : (v : ℕ) → v < n → put (b .units) u x v ≡ unitBytes l (w .units v)
-      both v h = go (eqb v u) refl
-        where
-          go : (t : Bool) → eqb v u ≡ t → cond t x (b .units v) ≡ unitBytes l (w .units v)
-          go true e = let q = eqb-true v u e in rw q (same (subst (λ z. z < n) q h))
-          go false e = enc .units v h
+  pub encodes-same : (u < n → x ≡ unitBytes l (w .units u)) → Encodes l n (change b u x) w
+  encodes-same same = record { units = put-bytes (w .units) same (λ v e. refl); sent = enc .sent; proposed = enc .proposed; decided = enc .decided }
 
 -- ---- messages and decisions
 
@@ -285,16 +286,20 @@ module _ (l : Limits) (sane : Sane l) (n : ℕ) (b : ByteWorld) (w : ContentsWor
   -- key-on of a down unit, whatever the image buffer held
   pub on-key : w .units u .power ≡ Down → (buffer : List ℕ) → Follows l n (B.afterKeyOn b u (keyOnCall l log buffer)) w
   unfolding B.afterKeyOn C.step C.apply keyOnCallRows unitLengths D.keyOn D.unless firstOf downUnit atLog recovered
-  on-key off buffer = go (eqb (keyOnCall l log buffer .number) 0) refl
+  on-key off buffer = go (eqb (c .number) 0) refl
     where
-      go : (t : Bool) → eqb (keyOnCall l log buffer .number) 0 ≡ t
-          → Follows l n (cond t (change b u (up (keyOnCall l log buffer .log) (keyOnCall l log buffer .image))) b) w
+      c : Called
+      c = keyOnCall l log buffer
+
+      go : (t : Bool) → eqb (c .number) 0 ≡ t → Follows l n (cond t (change b u (up (c .log) (c .image))) (change b u (down (c .log)))) w
       go true e =
-          let none = key-on-refusing l log buffer .number .accepted (eqb-true (keyOnCall l log buffer .number) 0 e) in
+          let none = key-on-refusing l log buffer .number .accepted (eqb-true (c .number) 0 e) in
           let size = or-length (wrongLength log (logSize l)) buffer (imageSize l) (none .0) in
           inr (
             C.on u,
             rw (key-on-encoded l sane (unitLog (w .units u)) buffer (valid .units u below .log) size, lt-ltb u n below)
                 (encodes-change l n b w enc u _ _ (λ h. rw off)),
           )
-      go false e = inl enc
+      go false e =
+          let kept = unchanged l (keyOnCallRows l log buffer) log buffer [] c (key-on-refusing l log buffer) e in
+          inl (encodes-same l n b w enc u (down (c .log)) (λ h. rw (kept .log, off)))

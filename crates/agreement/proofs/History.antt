@@ -2,7 +2,7 @@
 use Prim.Native.Nat.{ℕ, zero, suc, _<_}
 use mathlib.Core.Path.{_≡_, refl, sym, ap, subst, _∙_}
 use mathlib.Core.Bool.{Bool, true, false, cond}
-use mathlib.Core.List.{List, [], _∷_, _++_, append-nil, append-cancel-left, List·Memᴰ, List·Memᴰ·head, List·Memᴰ·tail, List·Memᴰ·not-nil}
+use mathlib.Core.List.{List, [], _∷_, _++_, List·Memᴰ, List·Memᴰ·head, List·Memᴰ·tail, List·Memᴰ·not-nil}
 use mathlib.Core.List.{Memᴰ·append-left, Memᴰ·append-right, List·Memᴰ·append-cases, List·Memᴰ·eq-of-singleton}
 use mathlib.Core.Logic.{_⊎_, inl, inr}
 use mathlib.Core.Option.{Option, none, some}
@@ -11,6 +11,7 @@ use borrow.Author.Tests.{ltb-true}
 use lib.Dec.{ltb}
 use lib.ListN.{getElem?}
 use Rattle.tally.specs.Limits.{Limits}
+use Rattle.tally.specs.Quorum.{quorumOf}
 use Rattle.tally.specs.declared.Estimate.{Estimate}
 use Rattle.tally.specs.declared.Estimate.the-variants.{Blank, Split, Mileage}
 use Rattle.tally.proofs.Never.{never}
@@ -25,11 +26,11 @@ use Rattle.consensus.specs.Units.{WellFormed, atLog}
 use Rattle.consensus.specs.declared.Answer.{Answer}
 use Rattle.consensus.specs.declared.Unit as U
 use Rattle.agreement.specs.Contents.{ContentsWorld, Event, proposal, delivery, cut, off, on, eventUnit, begun, unlessEmpty, accepted, after, afterCut}
-use Rattle.agreement.specs.Contents.{afterProposal, delivering, apply, step, AgreedContents}
-use Rattle.agreement.specs.Worlds.{Setup, settingsOf, Proposal, Decision, put, change, keep, report, decision, run, Given}
+use Rattle.agreement.specs.Contents.{afterProposal, delivering, apply, step, view, AgreedContents}
+use Rattle.agreement.specs.Worlds.{Setup, settingsOf, Proposal, Decision, put, change, keep, report, decision, run, Given, Locked, Many, Seconded}
 use Rattle.consensus.proofs.Answers.{propose-keeps}
 use Rattle.consensus.proofs.Soundness.{sound-propose, sound-deliver, sound-key-off, sound-key-on, well-fresh}
-use Rattle.agreement.proofs.Votes.{Of, of-map, Sure, Chosen}
+use Rattle.agreement.proofs.Votes.{Of, of-map, many-map, Sure, Chosen}
 use Rattle.agreement.proofs.Invariant.{Member, Invariant, locked-at, agreement, fair-up}
 use Rattle.agreement.proofs.Changed.{New, changed}
 use Rattle.agreement.proofs.Good.{Good, fair-none, good-off, good-on, good-propose, good-deliver}
@@ -63,10 +64,6 @@ module _ {A : Type 0} where
       go : List·Memᴰ a xs ⊎ List·Memᴰ a (b ∷ []) → List·Memᴰ a xs ⊎ P a
       go (inl m) = inl m
       go (inr m) = inr (subst P (sym (List·Memᴰ·eq-of-singleton m)) p)
-
-  added-last : (P : A → Type 0) (xs : List A) (o : Option A) (a : A) → added xs o ≡ xs ++ (a ∷ []) → When P o → P a
-  added-last P xs none a e p = let q : [] ≡ a ∷ [] = append-cancel-left xs [] (a ∷ []) (append-nil xs ∙ e) in never cc
-  added-last P xs (some b) a e p = let q : b ∷ [] ≡ a ∷ [] = append-cancel-left xs (b ∷ []) (a ∷ []) e in let r : b ≡ a = cc in subst P r p
 
   -- what is found at a place is in the list
   at-place : (P : Option A → Type 0) (xs : List A) → P none → ((a : A) → List·Memᴰ a xs → P (some a)) → (k : ℕ) → P (getElem? xs k)
@@ -108,18 +105,38 @@ after-is w u r a = go (unlessEmpty (a .message .kind) (a .message)) (decision u 
     go (some m) none = refl
     go (some m) (some d) = refl
 
+pub run-append : {W E : Type 0} (step : W → E → W) (w : W) (xs ys : List E) → run step w (xs ++ ys) ≡ run step (run step w xs) ys
+unfolding run
+run-append step w [] ys = refl
+run-append step w (x ∷ xs) ys = run-append step (step w x) xs ys
+
+pub run-snoc : {W E : Type 0} (step : W → E → W) (w : W) (xs : List E) (e : E) → run step w (xs ++ (e ∷ [])) ≡ step (run step w xs) e
+unfolding run
+run-snoc step w [] e = refl
+run-snoc step w (x ∷ xs) e = run-snoc step (step w x) xs e
+
 -- ---- the events
 
--- an event leads from w to w′: the invariant holds there, and what it reported was proposed before
+-- what was sent or proposed stays
+pub record Later (w w′ : ContentsWorld) : Type 0 where
+  pub sent : (m : Message) → List·Memᴰ m (w .sent) → List·Memᴰ m (w′ .sent)
+  pub proposed : (v : ℕ) → Proposed (w .proposed) v → Proposed (w′ .proposed) v
+
+pub now : (w : ContentsWorld) → Later w w
+now w = record { sent = λ m h. h; proposed = λ v h. h }
+
+-- an event leads from w to w′: the invariant holds there, and what is decided there was proposed before
 record Next (l : Limits) (c : Setup) (w w′ : ContentsWorld) : Type 0 where
   inv : Inv l c w′
-  decision : Option Decision
-  last : w′ .decided ≡ added (w .decided) decision
-  given : When (λ d. Proposed (w .proposed) (d .mileage)) decision
+  given : (d : Decision) → List·Memᴰ d (w′ .decided) → Proposed (w .proposed) (d .mileage)
+  later : Later w w′
 
 module _ (l : Limits) (c : Setup) (w : ContentsWorld) (inv : Inv l c w) where
+  given-now : (d : Decision) → List·Memᴰ d (w .decided) → Proposed (w .proposed) (d .mileage)
+  given-now d h = inv .decided d h .1
+
   same : Next l c w w
-  same = record { inv = inv; decision = none; last = refl; given = tt }
+  same = record { inv = inv; given = given-now; later = now w }
 
   -- an event that changes nothing unless b
   if : (b : Bool) {w′ : ContentsWorld} → (b ≡ true → Next l c w w′) → Next l c w (cond b w′ w)
@@ -154,11 +171,15 @@ module _ (l : Limits) (c : Setup) (w : ContentsWorld) (inv : Inv l c w) where
               changed l c (w .units) inv u (a .unit) (member C r (w .units u) (here .settings) a sound good) (added-up (w .sent) o) more
               (added-back P (w .sent) o (when-sent P (a .message .kind) (a .message) (new C r (w .units u) (here .settings) a sound good)))
               (added-back Q (w .decided) (decision u r (a .decision)) (when-decided Q u r (a .decision) (good .decision)));
-          decision = decision u r (a .decision);
-          last = refl;
-          given = when-decided (λ d. A (d .mileage)) u r (a .decision) given;
+          given = λ d h. before d (added-back (λ d. A (d .mileage)) (w .decided) (decision u r (a .decision))
+              (when-decided (λ d. A (d .mileage)) u r (a .decision) given) d h);
+          later = record { sent = added-up (w .sent) o; proposed = more };
         }
       where
+        before : (d : Decision) → List·Memᴰ d (w .decided) ⊎ A (d .mileage) → A (d .mileage)
+        before d (inl h) = given-now d h
+        before d (inr h) = h
+
         C : ℕ → Type 0
         C = Proposed ps
 
@@ -176,9 +197,8 @@ module _ (l : Limits) (c : Setup) (w : ContentsWorld) (inv : Inv l c w) where
     change-next y settings a sound good =
         record {
           inv = changed l c (w .units) inv u (a .unit) (member A 0 y settings a sound good) (λ m h. h) (λ v h. h) (λ m h. inl h) (λ d h. inl h);
-          decision = none;
-          last = refl;
-          given = tt;
+          given = given-now;
+          later = record { sent = λ m h. h; proposed = λ v h. h };
         }
 
     off-next : (y : U.Unit) → Member l c X A u y → Next l c w (change w u (keyOff y .unit))
@@ -280,26 +300,78 @@ module _ (l : Limits) (c : Setup) (w : ContentsWorld) (inv : Inv l c w) where
 
 -- ---- demand 3
 
--- the mileage of a decision was given before the event that reports it
-pub step-proposed : (l : Limits) (c : Setup) (w : ContentsWorld) (e : Event) → Inv l c w → (d : Decision)
-    → step l (c .n) w e .decided ≡ w .decided ++ (d ∷ []) → Given (d .mileage) w
-step-proposed l c w e i d h =
-    let n = step-next l c w i e in
-    let g = added-last (λ d. Proposed (w .proposed) (d .mileage)) (w .decided) (n .decision) d (sym (n .last) ∙ h) (n .given) in
-    record { by = g .0; there = g .1 }
+module _ (l : Limits) (c : Setup) where
+  abbrev to : ContentsWorld → List Event → ContentsWorld
+  to w es = run (step l (c .n)) w es
 
-pub agreed : (l : Limits) (c : Setup) (w : ContentsWorld) (es : List Event) → Inv l c w → AgreedContents l (c .n) w es
-agreed l c w es inv =
-    record {
-      same = agreement l c _ _ _ _ end;
-      proposed = λ before after e split d h. step-proposed l c (run (step l (c .n)) w before) e (run-inv l c w before inv) d h;
-      logs = λ u b s h d i. locked-at l c _ _ _ _ end d i s (rw h at (end .units u b .fair .logged));
-      images = λ u b s h d i. locked-at l c _ _ _ _ end d i s (rw (h .1) at (end .units u b .fair .current));
-    }
-  where
-    end : Inv l c (run (step l (c .n)) w es)
-    end = run-inv l c w es inv
+  pub run-later : (w : ContentsWorld) (es : List Event) → Inv l c w → Later w (to w es)
+  unfolding run
+  run-later w [] inv = now w
+  run-later w (e ∷ es) inv =
+      let n = step-next l c w inv e in
+      let r = run-later (step l (c .n) w e) es (n .inv) in
+      record { sent = λ m h. r .sent m (n .later .sent m h); proposed = λ v h. r .proposed v (n .later .proposed v h) }
 
-pub agreed-begun : (l : Limits) (c : Setup) → ((u : ℕ) → u < c .n → settingsOk (settingsOf c u) ≡ true) → (es : List Event)
-    → AgreedContents l (c .n) (begun c) es
-agreed-begun l c ok es = agreed l c (begun c) es (begun-inv l c ok)
+  pub step-later : (w : ContentsWorld) (e : Event) → Inv l c w → Later w (step l (c .n) w e)
+  step-later w e inv = step-next l c w inv e .later
+
+  -- the mileage of what is decided was given, and of what is decided after an event it was given before it
+  pub decided-given : (w : ContentsWorld) → Inv l c w → (d : Decision) → List·Memᴰ d (w .decided) → Given (d .mileage) w
+  decided-given w i d h = let g = given-now l c w i d h in record { by = g .0; there = g .1 }
+
+  pub step-proposed : (w : ContentsWorld) (e : Event) → Inv l c w → (d : Decision) → List·Memᴰ d (step l (c .n) w e .decided) → Given (d .mileage) w
+  step-proposed w e i d h = let g = step-next l c w i e .given d h in record { by = g .0; there = g .1 }
+
+  -- a state that was sure is locked by what is decided later
+  pub locked-later : (w w′ : ContentsWorld) → Later w w′ → Inv l c w → Inv l c w′ → (u : ℕ) → u < c .n → (d : Decision)
+      → List·Memᴰ d (w′ .decided)
+      → Locked d (w .units u .logged) × Locked d (w .units u .current)
+  locked-later w w′ more was inv u b d h =
+      let f = fair-up c (more .sent) (more .proposed) (w .units u) (was .units u b .fair) in
+      (locked-at l c _ _ _ _ inv d h (w .units u .logged) (f .logged), locked-at l c _ _ _ _ inv d h (w .units u .current) (f .current))
+
+  -- a quorum of SECONDs agreed
+  pub seconds-sent : (w : ContentsWorld) → Inv l c w → (d : Decision) → List·Memᴰ d (w .decided)
+      → Many (c .n) (quorumOf (c .engine) (c .n)) (Seconded view w d)
+  seconds-sent w inv d h =
+      many-map (λ u a.
+      record {
+        copy = a .message;
+        message = a .message;
+        sent = a .sent;
+        reads = refl;
+        kind = a .kind;
+        sender = a .sender;
+        round = a .round;
+        estimate = a .estimate;
+      })
+      (inv .decided d h .0)
+
+  pub agreed : (w : ContentsWorld) (es : List Event) → Inv l c w → AgreedContents l c w es
+  agreed w es inv =
+      record {
+        same = agreement l c _ _ _ _ end;
+        proposed = λ xs ys e split d h.
+            step-proposed (to w xs) e (run-inv l c w xs inv) d
+            (subst (λ (z : ContentsWorld). List·Memᴰ d (z .decided)) (run-snoc (step l (c .n)) w xs e) h);
+        logs = λ xs ys split u b s h d i. subst (Locked d) h (ever xs ys split u b d i .0);
+        images = λ xs ys split u b s h d i. subst (Locked d) (h .1) (ever xs ys split u b d i .1);
+        logs-read = λ u b. (to w es .units u .logged, refl);
+        images-read = λ u b on. (to w es .units u .current, (on, refl));
+        seconded = seconds-sent (to w es) end;
+      }
+    where
+      end : Inv l c (to w es)
+      end = run-inv l c w es inv
+
+      -- at every time before, against the decisions of the whole history
+      ever : (xs ys : List Event) → es ≡ xs ++ ys → (u : ℕ) → u < c .n → (d : Decision) → List·Memᴰ d (to w es .decided)
+          → Locked d (to w xs .units u .logged) × Locked d (to w xs .units u .current)
+      ever xs ys split u b d i =
+          let was = run-inv l c w xs inv in
+          let whole : to w es ≡ to (to w xs) ys = ap (to w) split ∙ run-append (step l (c .n)) w xs ys in
+          locked-later (to w xs) (to (to w xs) ys) (run-later (to w xs) ys was) was (run-inv l c (to w xs) ys was) u b d
+          (subst (λ (z : ContentsWorld). List·Memᴰ d (z .decided)) whole i)
+
+  pub agreed-begun : ((u : ℕ) → u < c .n → settingsOk (settingsOf c u) ≡ true) → (es : List Event) → AgreedContents l c (begun c) es
+  agreed-begun ok es = agreed (begun c) es (begun-inv l c ok)

@@ -1,12 +1,13 @@
--- The scope paper's listing as a history, with its cut and its key-on, computed to its five messages and its decision. Assumes nothing.
+-- Two histories computed: the scope paper's listing, with its cut and its key-on, to its five messages and its decision; one of R. Assumes nothing.
 use Prim.Native.Nat.{ℕ}
 use mathlib.Core.Path.{_≡_, refl}
 use mathlib.Core.List.{List, [], _∷_, _++_}
 use lib.Count.{ones}
-use lib.ListN.{replicate}
+use lib.ListN.{replicate, getElem?}
+use mathlib.Core.Option.{some}
 use Rattle.tally.specs.Limits.{today, logSize, imageSize, messageSize}
-use Rattle.tally.specs.declared.Engine.the-variants.{B}
-use Rattle.tally.specs.Gathered.{allHold, common, firstPassing}
+use Rattle.tally.specs.declared.Engine.the-variants.{B, R}
+use Rattle.tally.specs.Gathered.{holders, allHold, common, firstPassing, leads, majority}
 use Rattle.tally.specs.Tally.{noMarks, mark, gatheredFrom, gathered}
 use Rattle.contents.specs.Estimates.{mileageOrBlank, mileageOrSplit, secondFits, sameMileage}
 use Rattle.contents.specs.Logs.{stateOk, logOk}
@@ -23,12 +24,9 @@ use Rattle.consensus.specs.Step.{checksWith, onCheck, nextProposal, close, coun
 use Rattle.consensus.specs.Methods.{forOther, outOfRange, closesLast, unless, proposeRows, propose, deliverRows, deliver, keyOn}
 use Rattle.mileage.specs.Calls.{unitLengths, badLog, badSettings, badImage, badMessage, logBytes, messageBytes, startCallRows, startCall, keyOnCallRows}
 use Rattle.mileage.specs.Calls.{keyOnCall, proposeCallRows, proposeCall, deliverCallRows, deliverCall}
-use Rattle.agreement.specs.Bytes.{ByteWorld, up, Event, proposal, delivery, cut, on, begun, after, afterProposal, afterCut, afterKeyOn, proposalOf}
+use Rattle.agreement.specs.Bytes.{ByteWorld, up, Event, proposal, delivery, cut, off, on, begun, after, afterProposal, afterCut, afterKeyOn, proposalOf}
 use Rattle.agreement.specs.Bytes.{delivering, keyOnOf, step}
 use Rattle.agreement.specs.Worlds.{Setup, run}
-
-abbrev setup : Setup
-setup = record { engine = B; n = 3; entry = 7 }
 
 -- buffers that held other bytes before
 abbrev junk : ℕ → List ℕ
@@ -36,6 +34,23 @@ junk k = replicate k 170
 
 abbrev out : List ℕ
 out = junk (messageSize today)
+
+abbrev on′ : ℕ → Event
+on′ u = on u (junk (imageSize today))
+
+abbrev after′ : Setup → List Event → ByteWorld
+after′ c es = run (step today (c .n)) (begun today c (λ u. junk (logSize today)) (λ u. junk (imageSize today))) es
+
+-- numbers and blank, as they are stored
+abbrev blank : List ℕ
+blank = replicate 4 255
+
+-- kind's letter, engine's letter, n, sender, receiver, round, estimate, proposal
+abbrev message : ℕ → ℕ → ℕ → ℕ → ℕ → ℕ → List ℕ → List ℕ → List ℕ
+message kind engine n sender receiver round estimate own =
+    kind ∷ engine ∷ n ∷ sender ∷ receiver ∷ 0 ∷ 0 ∷ 7 ∷ 0 ∷ round ∷ (estimate ++ own)
+
+-- ---- the listing
 
 abbrev listing : List Event
 listing =
@@ -47,29 +62,15 @@ listing =
     ∷ delivery 0 1 out
     ∷ cut 0 2 out
     ∷ delivery 0 3 out
-    ∷ on 0 (junk (imageSize today))
+    ∷ on′ 0
     ∷ delivery 2 3 out
     ∷ delivery 2 1 out
     ∷ delivery 2 2 out
     ∷ delivery 2 4 out
     ∷ []
 
-abbrev first : ByteWorld
-first = begun today setup (λ u. junk (logSize today)) (λ u. junk (imageSize today))
-
-abbrev last : ByteWorld
-last = run (step today 3) first listing
-
--- 412,077 and blank, as they are stored
 abbrev mileage : List ℕ
 mileage = 0 ∷ 6 ∷ 73 ∷ 173 ∷ []
-
-abbrev blank : List ℕ
-blank = replicate 4 255
-
--- kind's letter, sender, proposal
-abbrev message : ℕ → ℕ → List ℕ → List ℕ
-message kind sender own = kind ∷ 66 ∷ 3 ∷ sender ∷ 255 ∷ 0 ∷ 0 ∷ 7 ∷ 0 ∷ 0 ∷ (mileage ++ own)
 
 -- the log of unit 0, with the second estimate that the cut delivery wrote
 abbrev log : List ℕ
@@ -79,19 +80,63 @@ abbrev unmarked : List ℕ
 unmarked = 0 ∷ 0 ∷ replicate 64 255
 
 -- five messages, F, C, C, S, S, of which the cut sent none; a decision by unit 2 in round 0; unit 0 up again, with its log's image
-pub shown : (
-    last .sent
-    ≡ message 70 0 mileage ∷ message 67 0 mileage ∷ message 67 1 mileage ∷ message 83 1 blank ∷ message 83 2 blank ∷ []
-    ) × (
-    (last .proposed ≡ record { unit = 0; mileage = 412077 } ∷ []) × (
-    (last .decided ≡ record { unit = 2; round = 0; mileage = 412077 } ∷ []) × (last .units 0 ≡ up log (log ++ (unmarked ++ unmarked)))
-    )
-    )
-unfolding ones allHold common firstPassing noMarks mark gatheredFrom gathered
+pub record Listed (w : ByteWorld) : Type 0 where
+  pub sent : w .sent
+      ≡ message 70 66 3 0 255 0 mileage mileage
+      ∷ message 67 66 3 0 255 0 mileage mileage
+      ∷ message 67 66 3 1 255 0 mileage mileage
+      ∷ message 83 66 3 1 255 0 mileage blank
+      ∷ message 83 66 3 2 255 0 mileage blank
+      ∷ []
+  pub proposed : w .proposed ≡ record { unit = 0; mileage = 412077 } ∷ []
+  pub decided : w .decided ≡ record { unit = 2; round = 0; mileage = 412077 } ∷ []
+  pub unit-0 : w .units 0 ≡ up log (log ++ (unmarked ++ unmarked))
+
+-- ---- R: SECONDs 5, 5, 9 make 5 the majority of round 0; round 1, which units 0 to 2 catch up with, decides it; an old SECOND is skipped
+
+abbrev of-r : List Event
+of-r =
+    proposal 0 5 out
+    ∷ proposal 1 9 out
+    ∷ delivery 0 0 out
+    ∷ delivery 1 0 out
+    ∷ delivery 2 1 out
+    ∷ delivery 3 2 out
+    ∷ delivery 3 3 out
+    ∷ delivery 3 4 out
+    ∷ proposal 3 7 out
+    ∷ off 0
+    ∷ on′ 0
+    ∷ delivery 0 5 out
+    ∷ delivery 1 5 out
+    ∷ delivery 2 5 out
+    ∷ delivery 3 6 out
+    ∷ delivery 3 7 out
+    ∷ delivery 3 4 out
+    ∷ delivery 3 8 out
+    ∷ []
+
+abbrev five : List ℕ
+five = 0 ∷ 0 ∷ 0 ∷ 5 ∷ []
+
+pub record Majority (w : ByteWorld) : Type 0 where
+  pub proposed : w .proposed ≡ record { unit = 0; mileage = 5 } ∷ record { unit = 1; mileage = 9 } ∷ record { unit = 3; mileage = 7 } ∷ []
+  pub decided : w .decided ≡ record { unit = 3; round = 1; mileage = 5 } ∷ []
+  -- FIRST of round 1 with the majority, and the SKIP to unit 2
+  pub first : getElem? (w .sent) 5 ≡ some (message 70 82 4 3 255 1 five five)
+  pub skip : getElem? (w .sent) 9 ≡ some (message 75 82 4 3 2 1 blank five)
+
+-- ---- both
+
+pub computed : Listed (after′ (record { engine = B; n = 3; entry = 7 }) listing) × Majority (after′ (record { engine = R; n = 4; entry = 7 }) of-r)
+unfolding ones holders allHold common firstPassing leads majority noMarks mark gatheredFrom gathered
     mileageOrBlank mileageOrSplit secondFits sameMileage stateOk logOk every placeOk placesOk tallyOk checksAllowed imageOk sameSettings stateFits fits
     firstOk checkOk secondOk skipOk kindOk messageOk numAt bytesOf readLog readMessage cleared readImage imageBytes firstOf atLog downUnit says logWrite
     atRound fresh recovered sendFirst proposed takeFirst onFirst isFull takeSecond countCheck checksWith onCheck nextProposal close countSecond
     secondsWith onSecond onKind skip caughtUp received forOther outOfRange closesLast unless proposeRows propose deliverRows deliver keyOn unitLengths
     badLog badSettings badImage badMessage logBytes messageBytes startCallRows startCall keyOnCallRows keyOnCall proposeCallRows proposeCall
     deliverCallRows deliverCall run begun after afterProposal afterCut afterKeyOn proposalOf delivering keyOnOf step
-shown = (refl, (refl, (refl, refl)))
+computed = (
+  record { sent = refl; proposed = refl; decided = refl; unit-0 = refl },
+  record { proposed = refl; decided = refl; first = refl; skip = refl },
+)

@@ -1,10 +1,9 @@
 -- Votes sent, quorums of them, blocked mileages and safe proposals: once there, they stay. X are the messages sent, A the mileages proposed. Assumes nothing.
-use Prim.Native.Nat.{ℕ, _+_, _-_, _≤_, _<_}
+use Prim.Native.Nat.{ℕ, _+_, _-_, _<_}
 use mathlib.Core.Path.{_≡_, refl, sym, _∙_}
 use mathlib.Core.Bool.{Bool, true, false}
 use native.Mathlib.Omega.{arith}
 use borrow.Author.Tests.{eq-eqb}
-use Rattle.tally.specs.Count.{count}
 use Rattle.tally.specs.Gathered.{holds}
 use Rattle.tally.specs.Quorum.{quorumOf}
 use Rattle.tally.specs.declared.Estimate.{Estimate}
@@ -16,7 +15,7 @@ use Rattle.contents.specs.declared.Kind.{Kind}
 use Rattle.contents.specs.declared.Kind.the-variants.{Empty, First, Check, Second, Skip}
 use Rattle.contents.specs.declared.Message.{Message}
 use Rattle.consensus.proofs.Full.{holds-mileage}
-use Rattle.agreement.specs.Worlds.{Setup}
+use Rattle.agreement.specs.Worlds.{Setup, Many}
 
 -- ---- estimates
 
@@ -41,12 +40,7 @@ holds-not v e h p = never (sym h ∙ rw p (eq-eqb v v refl))
 
 -- ---- so many units each with a fact
 
-pub record Many (n need : ℕ) (P : ℕ → Type 0) : Type 0 where
-  pub who : ℕ → Bool
-  pub many : need ≤ count n who
-  pub each : (u : ℕ) → who u ≡ true → P u
-
-many-map : {n need : ℕ} {P Q : ℕ → Type 0} → ((u : ℕ) → P u → Q u) → Many n need P → Many n need Q
+pub many-map : {n need : ℕ} {P Q : ℕ → Type 0} → ((u : ℕ) → P u → Q u) → Many n need P → Many n need Q
 many-map f a = record { who = a .who; many = a .many; each = λ u h. f u (a .each u h) }
 
 -- two sets of units that have more than n members together share one

@@ -29,7 +29,8 @@ down log = record { log = log; image = none }
 abbrev pub ByteWorld : Type 0
 ByteWorld = World UnitBytes (List ℕ)
 
--- a buffer that a host lends: the log or the image of a unit, or any other
+-- a buffer that a host lends: the log or the image of a unit, or any other; only refused calls have such buffers here, so that two of a call may
+-- be the same
 pub data Lent : Type 0 where
   logOf imageOf : ℕ → Lent
   other : List ℕ → Lent
@@ -43,7 +44,8 @@ pub data Call : Type 0 where
   readsLog readsMessage : (bytes : Lent) (fields : List ℕ) → Call
   writesLog writesMessage : (fields : List ℕ) (bytes : Lent) → Call
 
--- every event of a history; `out` and `image` are what the output or image buffer held before
+-- every event of a history; `out` and `image` are what the output or image buffer held before. A proposal or a key-on that is cut short is a
+-- key-off; a cut delivery is the scope paper's term.
 pub data Event : Type 0 where
   proposal : (unit mileage : ℕ) (out : List ℕ) → Event
   delivery cut : (unit message : ℕ) (out : List ℕ) → Event
@@ -70,14 +72,14 @@ allZero (b ∷ bs) = eqb b 0 && allZero bs
 abbrev pub unlessEmpty : List ℕ → Option (List ℕ)
 unlessEmpty bs = cond (allZero bs) none (some bs)
 
--- the log and image that the call gives are the unit's from then on; where it is accepted its message, unless empty, is kept next,
--- and its decision, if any, is reported
+-- the log and image that the call leaves are the unit's from then on (after a refusal the bytes that it had); where it is accepted its
+-- message, unless empty, is kept next, and its decision, if any, is reported as one of round r
 unfoldable pub after : ByteWorld → ℕ → ℕ → Called → ByteWorld
 after w u r c =
     let now = change w u (up (c .log) (c .image)) in
     cond (eqb (c .number) 0) (report (keep now (unlessEmpty (c .out))) (decision u r (estimateOf (c .decision)))) now
 
--- an accepted proposal is recorded as well
+-- an accepted proposal is recorded as well; it decides nothing, so that 0 stands for a round
 unfoldable pub afterProposal : ByteWorld → ℕ → ℕ → Called → ByteWorld
 afterProposal w u v c = cond (eqb (c .number) 0) (give (after w u 0 c) (record { unit = u; mileage = v })) (after w u 0 c)
 
@@ -87,9 +89,9 @@ afterCut w u c = cond (eqb (c .number) 0) (change w u (down (c .log))) (change w
 
 -- accepted, the unit is up with that image
 unfoldable pub afterKeyOn : ByteWorld → ℕ → Called → ByteWorld
-afterKeyOn w u c = cond (eqb (c .number) 0) (change w u (up (c .log) (c .image))) w
+afterKeyOn w u c = cond (eqb (c .number) 0) (change w u (up (c .log) (c .image))) (change w u (down (c .log)))
 
--- a message's round; that of a decision is the round of the SECOND delivered, which is that of all the SECONDs gathered
+-- a message's round; that of a decision is the round of the SECOND delivered (`Agreed.seconded`)
 abbrev pub roundOf : Limits → List ℕ → ℕ
 roundOf l message = readMessage l message .contents .round
 
@@ -166,7 +168,7 @@ leaveAll w (x ∷ xs) = leaveAll (leave w (x .lent) (x .bytes)) xs
 
 -- ---- histories
 
--- units are numbered 0 to n − 1: an event of another is none
+-- units are numbered 0 to n − 1, and others are none of the history's: an event of one changes nothing
 abbrev pub ofUnit : ℕ → ℕ → ByteWorld → ByteWorld → ByteWorld
 ofUnit n u w next = cond (ltb u n) next w
 

@@ -11,12 +11,11 @@ use Rattle.tally.specs.Refusal.{numberOf}
 use Rattle.contents.specs.declared.Kind.{Kind}
 use Rattle.contents.specs.declared.Kind.the-variants.{Empty, First, Check, Second, Skip}
 use Rattle.contents.specs.declared.Message.{Message}
-use Rattle.contents.specs.declared.State.{State}
 use Rattle.consensus.specs.Methods.{propose, deliver, keyOff, keyOn, isUp}
 use Rattle.consensus.specs.Step.{fresh}
 use Rattle.consensus.specs.declared.Answer.{Answer}
 use Rattle.consensus.specs.declared.Unit as U
-use Rattle.agreement.specs.Worlds.{Setup, settingsOf, World, change, keep, report, give, decision, Agreed}
+use Rattle.agreement.specs.Worlds.{Setup, settingsOf, World, change, keep, report, give, decision, View, Agreed}
 
 abbrev pub ContentsWorld : Type 0
 ContentsWorld = World U.Unit Message
@@ -77,13 +76,15 @@ apply l w (on u) = change w u (keyOn (w .units u) .unit)
 unfoldable pub step : Limits → ℕ → ContentsWorld → Event → ContentsWorld
 step l n w e = cond (ltb (eventUnit e) n) (apply l w e) w
 
-abbrev pub HasLog : U.Unit → State → Type 0
-HasLog x s = x .logged ≡ s
-
--- while up
-abbrev pub HasImage : U.Unit → State → Type 0
-HasImage x s = (isUp (x .power) ≡ true) × (x .current ≡ s)
+abbrev pub view : View U.Unit Message
+view =
+    record {
+      HasLog = λ x s. x .logged ≡ s;
+      IsUp = λ x. isUp (x .power) ≡ true;
+      HasImage = λ x s. (isUp (x .power) ≡ true) × (x .current ≡ s);
+      Reads = λ m r. m ≡ r;
+    }
 
 -- demand 3 over contents
-abbrev pub AgreedContents : Limits → ℕ → ContentsWorld → List Event → Type 0
-AgreedContents l n w es = Agreed n HasLog HasImage (step l n) w es
+abbrev pub AgreedContents : Limits → Setup → ContentsWorld → List Event → Type 0
+AgreedContents l c w es = Agreed c view (step l (c .n)) w es

@@ -1,13 +1,17 @@
 -- What a history leaves, and what demand 3 says of it, whether units and messages are bytes or contents. Assumes nothing.
-use Prim.Native.Nat.{ℕ, _<_}
+use Prim.Native.Nat.{ℕ, _≤_, _<_}
 use mathlib.Core.Path.{_≡_}
-use mathlib.Core.Bool.{cond}
+use mathlib.Core.Bool.{Bool, true, cond}
 use mathlib.Core.List.{List, [], _∷_, _++_, List·Memᴰ}
 use mathlib.Core.Option.{Option, none, some}
 use lib.Dec.{eqb}
+use Rattle.tally.specs.Count.{count}
+use Rattle.tally.specs.Quorum.{quorumOf}
 use Rattle.tally.specs.declared.Engine.{Engine}
 use Rattle.tally.specs.declared.Estimate.{Estimate}
 use Rattle.tally.specs.declared.Estimate.the-variants.{Blank, Split, Mileage}
+use Rattle.contents.specs.declared.Kind.the-variants.{Second}
+use Rattle.contents.specs.declared.Message.{Message}
 use Rattle.contents.specs.declared.Settings.{Settings}
 use Rattle.contents.specs.declared.State.{State}
 
@@ -66,7 +70,7 @@ decision u r Blank = none
 decision u r Split = none
 decision u r (Mileage v) = some (record { unit = u; round = r; mileage = v })
 
--- a history: any list of events, one after the other
+-- a history (the scope paper's term): any list of events, one after the other
 unfoldable pub run : {W E : Type 0} → (W → E → W) → W → List E → W
 run step w [] = w
 run step w (e ∷ es) = run step (step w e) es
@@ -80,24 +84,52 @@ pub record Given {U M : Type 0} (v : ℕ) (w : World U M) : Type 0 where
 abbrev pub Locked : Decision → State → Type 0
 Locked d s = d .round < s .round → s .proposal ≡ Mileage (d .mileage)
 
+-- what is seen of units and messages
+pub record View (U M : Type 0) : Type 1 where
+  -- a unit has a log at this state; it is up; it is up with an image at this state
+  pub HasLog : U → State → Type 0
+  pub IsUp : U → Type 0
+  pub HasImage : U → State → Type 0
+  -- a message is read as this one
+  pub Reads : M → Message → Type 0
+
+-- at least `need` of the units below n, each with a fact
+pub record Many (n need : ℕ) (P : ℕ → Type 0) : Type 0 where
+  pub who : ℕ → Bool
+  pub many : need ≤ count n who
+  pub each : (u : ℕ) → who u ≡ true → P u
+
+-- unit u has sent a SECOND of the decision's round with its mileage
+pub record Seconded {U M : Type 0} (view : View U M) (w : World U M) (d : Decision) (u : ℕ) : Type 0 where
+  pub copy : M
+  pub message : Message
+  pub sent : List·Memᴰ copy (w .sent)
+  pub reads : view .Reads copy message
+  pub kind : message .kind ≡ Second
+  pub sender : message .sender ≡ u
+  pub round : message .round ≡ d .round
+  pub estimate : message .estimate ≡ Mileage (d .mileage)
+
 module _ {U M E : Type 0} (step : World U M → E → World U M) where
   -- d is a decision that the events es from the world w on have left
   abbrev pub Reported : World U M → List E → Decision → Type 0
   Reported w es d = List·Memᴰ d (run step w es .decided)
 
-  -- d is the decision that the event e reports
-  abbrev pub Reports : World U M → E → Decision → Type 0
-  Reports w e d = step w e .decided ≡ w .decided ++ (d ∷ [])
-
--- demand 3 of the events es from the world w on. `HasLog x s`: the unit x has a log at state s; `HasImage x s`: it is up with an image at s.
-pub record Agreed {U M E : Type 0} (n : ℕ) (HasLog HasImage : U → State → Type 0) (step : World U M → E → World U M) (w : World U M) (es : List E)
-    : Type 0 where
+-- demand 3 of the events es from the world w on
+pub record Agreed {U M E : Type 0} (c : Setup) (view : View U M) (step : World U M → E → World U M) (w : World U M) (es : List E) : Type 0 where
   -- no two decisions differ
   pub same : (a b : Decision) → Reported step w es a → Reported step w es b → a .mileage ≡ b .mileage
-  -- each was proposed before: by an event before the one that reported it
-  pub proposed : (before after : List E) (e : E) → es ≡ before ++ (e ∷ after) → (d : Decision) → Reports step (run step w before) e d
+  -- each was proposed before: what is decided after an event was given by an accepted proposal event before it
+  pub proposed : (before after : List E) (e : E) → es ≡ before ++ (e ∷ after) → (d : Decision) → Reported step w (before ++ (e ∷ [])) d
       → Given (d .mileage) (run step w before)
-  -- no log in a round above a decision's has another proposal
-  pub logs : (u : ℕ) → u < n → (s : State) → HasLog (run step w es .units u) s → (d : Decision) → Reported step w es d → Locked d s
-  -- and no image
-  pub images : (u : ℕ) → u < n → (s : State) → HasImage (run step w es .units u) s → (d : Decision) → Reported step w es d → Locked d s
+  -- no log, at any time, in a round above a decision's has another proposal
+  pub logs : (before after : List E) → es ≡ before ++ after → (u : ℕ) → u < c .n → (s : State) → view .HasLog (run step w before .units u) s
+      → (d : Decision) → Reported step w es d → Locked d s
+  -- and no image of an up unit
+  pub images : (before after : List E) → es ≡ before ++ after → (u : ℕ) → u < c .n → (s : State) → view .HasImage (run step w before .units u) s
+      → (d : Decision) → Reported step w es d → Locked d s
+  -- of every unit these two speak: its log is read, and while it is up its image
+  pub logs-read : (u : ℕ) → u < c .n → (s : State) × view .HasLog (run step w es .units u) s
+  pub images-read : (u : ℕ) → u < c .n → view .IsUp (run step w es .units u) → (s : State) × view .HasImage (run step w es .units u) s
+  -- a decision's round is the one whose SECONDs agreed: a quorum of units has sent them
+  pub seconded : (d : Decision) → Reported step w es d → Many (c .n) (quorumOf (c .engine) (c .n)) (Seconded view (run step w es) d)

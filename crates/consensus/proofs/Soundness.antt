@@ -40,7 +40,8 @@ use Rattle.consensus.specs.Methods.{propose, proposeRows, deliver, deliv
 use Rattle.consensus.specs.Rows.{row, NoneHolds}
 use Rattle.consensus.specs.Sound.{From, Sound}
 use Rattle.consensus.specs.Step.{quiet, sends, says, silence, withCurrent, withProposal, withFirst, withSecond, withChecks, withSeconds, logWrite}
-use Rattle.consensus.specs.Step.{atRound, clean, fresh, recovered, orIfBlank, sendFirst, proposed, voteKind, voteProposal, takeFirst, isFull, takeSecond}
+use Rattle.consensus.specs.Step.{atRound, clean, fresh, recovered, orIfBlank, sendFirst, proposed, voteKind, voteProposal, takeFirst, isFull}
+use Rattle.consensus.specs.Step.{takeSecond}
 use Rattle.consensus.specs.Step.{checksWith, secondsWith, close, onKind, skip, received}
 use Rattle.consensus.specs.Units.{WellFormed, unitLog, downUnit, atLog}
 use Rattle.consensus.specs.declared.Power.{Power}
@@ -283,7 +284,8 @@ module _ (l : Limits) (u : U.Unit) (w : WellFormed l u) where
   sound-key-on = sound-key Up _
 
 -- a proposal kept or given is a mileage
-or-else-mileage : (l : Limits) (a : Estimate) (v : ℕ) → mileageOrBlank l a ≡ true → inRange l v ≡ true → isMileage l (orIfBlank a (Mileage v)) ≡ true
+or-else-mileage : (l : Limits) (a : Estimate) (v : ℕ) → mileageOrBlank l a ≡ true → inRange l v ≡ true
+    → isMileage l (orIfBlank a (Mileage v)) ≡ true
 unfolding mileageOrBlank
 or-else-mileage l Blank v h r = r
 or-else-mileage l Split v h r = never h
