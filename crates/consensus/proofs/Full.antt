@@ -11,7 +11,7 @@ use lib.ListN.{length}
 use lib.Seq.{getD-set-same, getD-set-other}
 use borrow.Author.Tests.{eqb-true, eqb-false}
 use Rattle.tally.specs.Count.{bump, passing, count}
-use Rattle.tally.specs.Gathered.{anyMileage, holds, holders, common, lowest, leads, firstPassing, majority}
+use Rattle.tally.specs.Gathered.{anyMileage, holds, holders, common, lowest, firstPassing, majority}
 use Rattle.tally.specs.Limits.{Limits, senders, maxUnits}
 use Rattle.tally.specs.Quorum.{quorumOf, majorityOf}
 use Rattle.tally.specs.Tally.{Typed, OnlyBelow, isMarked, blankCell, placed, held, mark, gathered}

@@ -6,4 +6,6 @@ pub mod Answers
 pub mod Full
 pub mod Parts
 pub mod Votes
+pub mod Addressee
 pub mod Soundness
+pub mod Refusals

@@ -8,7 +8,7 @@ use native.Mathlib.Omega.{arith}
 use lib.Bits.{bitOr}
 use lib.Count.{ones}
 use lib.Dec.{eqb, ltb}
-use borrow.Author.Tests.{eqb-true, eqb-false, le-leb, leb-true, leb-false, lt-ltb, not-false}
+use borrow.Author.Tests.{eqb-false, le-leb, leb-true, leb-false, lt-ltb, not-false}
 use Rattle.tally.specs.Gathered.{common}
 use Rattle.tally.specs.Limits.{Limits, everyone, senders}
 use Rattle.tally.specs.Quorum.{quorumOf}
@@ -24,7 +24,7 @@ use Rattle.tally.proofs.Marks.{mark-adds}
 use Rattle.tally.proofs.Never.{never}
 use Rattle.tally.proofs.Quorums.{quorum-fits}
 use Rattle.tally.proofs.Tallies.{typed-mark}
-use Rattle.contents.specs.Estimates.{isB, isBlank, isMileage, inRange, mileageOrBlank, mileageOrSplit, secondFits, sameEngine, sameMileage}
+use Rattle.contents.specs.Estimates.{isB, isBlank, isMileage, inRange, mileageOrBlank, mileageOrSplit, secondFits, sameMileage}
 use Rattle.contents.specs.Images.{checksAllowed, stateFits}
 use Rattle.contents.specs.Logs.{settingsOk, logOk, stateOk}
 use Rattle.contents.specs.Messages.{firstOk, checkOk, secondOk, skipOk, kindOk, messageOk}
@@ -33,7 +33,7 @@ use Rattle.contents.specs.declared.Kind.the-variants.{Empty, First, Check, Seco
 use Rattle.contents.specs.declared.Message.{Message}
 use Rattle.contents.specs.declared.Settings.{Settings}
 use Rattle.contents.proofs.Facts.{StateFacts, numbers-facts, message-facts}
-use Rattle.contents.proofs.Same.{same-engine, same-estimate, estimate-same}
+use Rattle.contents.proofs.Same.{same-estimate, estimate-same}
 use Rattle.contents.proofs.Tests.{both-true, or-left}
 use Rattle.consensus.specs.Methods.{forOther, outOfRange, isSecond, closesLast, refuses, unless}
 use Rattle.consensus.specs.Methods.{propose, proposeRows, deliver, deliverRows, keyOff, keyOn}
@@ -47,6 +47,7 @@ use Rattle.consensus.specs.Units.{WellFormed, unitLog, downUnit, atLog}
 use Rattle.consensus.specs.declared.Power.{Power}
 use Rattle.consensus.specs.declared.Power.the-variants.{Down, Up}
 use Rattle.consensus.specs.declared.Unit as U
+use Rattle.consensus.proofs.Addressee.{passes-mine}
 use Rattle.consensus.proofs.Branches.{unmarked-none, by-kind, by-check, by-second, by-round, by-rows}
 use Rattle.consensus.proofs.Parts.{Parts, parts, well, and-both, or-first, states-same, Vote, Places, places-mark, Tallied, tallied-none}
 use Rattle.consensus.proofs.Parts.{no-checks, parts-at-round, parts-at-log, well-at-log}
@@ -126,16 +127,13 @@ record Given (l : Limits) (s : Settings) (m : Message) : Type 0 where
   kind : (k : Kind) → m .kind ≡ k → kindOk l k m ≡ true
 
 given : (l : Limits) (s : Settings) (m : Message) → messageOk l m ≡ true → forOther s m ≡ false → Given l s m
-unfolding forOther
 given l s m ok for =
     let f = message-facts l m ok in
-    let a = both-true (sameEngine (s .engine) (m .engine) && eqb (s .n) (m .n) && eqb (s .entry) (m .entry)) _ (not-false _ for) in
-    let b = both-true (sameEngine (s .engine) (m .engine) && eqb (s .n) (m .n)) _ (a .0) in
-    let c = both-true (sameEngine (s .engine) (m .engine)) _ (b .0) in
+    let a = passes-mine s m for in
     record {
-      engine = same-engine _ _ (c .0);
-      below = omega (arith, eqb-true (s .n) (m .n) (c .1));
-      inside = omega arith;
+      engine = sym (a .engine);
+      below = omega (arith, f .numbers .below, a .n);
+      inside = omega (arith, f .numbers .below, f .numbers .n-high);
       round = f .round;
       kind = λ k e. subst (λ (x : Kind). kindOk l x m ≡ true) e (f .kind);
     }

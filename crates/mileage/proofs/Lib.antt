@@ -2,3 +2,4 @@ pub mod Narrow
 pub mod Calls
 pub mod Rows
 pub mod Encoded
+pub mod Examples

@@ -1,0 +1,247 @@
+-- Worked cases of the four calls, byte for byte: the scope paper's examples for the numbers 1 to 7 and its cases that calls can show, with some
+-- more of each call. Assumes nothing.
+use Prim.Native.Nat.{ℕ, _/_, _%_}
+use mathlib.Core.Path.{_≡_, refl, ap}
+use mathlib.Core.List.{List, [], _∷_, _++_, map}
+use lib.Count.{ones}
+use lib.ListN.{getD, take, drop, replicate}
+use Rattle.tally.proofs.Count.{Each}
+use Rattle.tally.specs.Gathered.{holders, allHold, common, firstPassing, lowest, leads, majority}
+use Rattle.tally.specs.Limits.{today}
+use Rattle.tally.specs.Tally.{noMarks, mark, gatheredFrom, gathered}
+use Rattle.contents.specs.Estimates.{mileageOrBlank, mileageOrSplit, secondFits, sameMileage}
+use Rattle.contents.specs.Logs.{stateOk, logOk}
+use Rattle.contents.specs.Images.{every, placeOk, placesOk, tallyOk, checksAllowed, imageOk, sameSettings, stateFits, fits}
+use Rattle.contents.specs.Messages.{firstOk, checkOk, secondOk, skipOk, kindOk, messageOk}
+use Rattle.codec.specs.Numbers.{numAt, bytesOf}
+use Rattle.codec.specs.Logs.{readLog}
+use Rattle.codec.specs.Messages.{readMessage, cleared}
+use Rattle.codec.specs.Images.{readImage, imageBytes}
+use Rattle.consensus.specs.Rows.{firstOf}
+use Rattle.consensus.specs.Units.{atLog, downUnit}
+use Rattle.consensus.specs.Step.{says, logWrite, atRound, fresh, recovered, sendFirst, proposed, takeFirst, onFirst, isFull, takeSecond, countCheck}
+use Rattle.consensus.specs.Step.{checksWith, onCheck, nextProposal, close, countSecond, secondsWith, onSecond, onKind, skip, caughtUp, received}
+use Rattle.consensus.specs.Methods.{forOther, outOfRange, closesLast}
+use Rattle.mileage.specs.Calls.{Called, unitLengths, badLog, badSettings, badImage, badMessage, logBytes, messageBytes, startCallRows, startCall}
+use Rattle.mileage.specs.Calls.{keyOnCallRows, keyOnCall, proposeCallRows, proposeCall, deliverCallRows, deliverCall}
+
+pub data Call : Type 0 where
+  start : (engine n unit entry : ℕ) (log image : List ℕ) → Call
+  keyOn : (log image : List ℕ) → Call
+  propose : (log image : List ℕ) (mileage : ℕ) (out : List ℕ) → Call
+  deliver : (log image message out : List ℕ) → Call
+
+abbrev answer : Call → Called
+answer (start engine n unit entry log image) = startCall today engine n unit entry log image
+answer (keyOn log image) = keyOnCall today log image
+answer (propose log image mileage out) = proposeCall today log image mileage out
+answer (deliver log image message out) = deliverCall today log image message out
+
+pub record Case : Type 0 where
+  pub call : Call
+  pub expected : Called
+
+-- ---- bytes
+
+abbrev B : ℕ
+B = 66
+
+abbrev R : ℕ
+R = 82
+
+abbrev F : ℕ
+F = 70
+
+abbrev C : ℕ
+C = 67
+
+abbrev S : ℕ
+S = 83
+
+abbrev K : ℕ
+K = 75
+
+abbrev Z : ℕ
+Z = 90
+
+abbrev two : ℕ → List ℕ
+two x = x / 256 ∷ x % 256 ∷ []
+
+abbrev mileage : ℕ → List ℕ
+mileage v = two (v / 65536) ++ two (v % 65536)
+
+abbrev blank : List ℕ
+blank = 255 ∷ 255 ∷ 255 ∷ 255 ∷ []
+
+abbrev split : List ℕ
+split = 255 ∷ 255 ∷ 255 ∷ 254 ∷ []
+
+-- no decision
+abbrev none : ℕ
+none = 4294967295
+
+-- engine, n, unit, round, proposal, first estimate, second estimate; the entry is 7
+abbrev log : ℕ → ℕ → ℕ → ℕ → List ℕ → List ℕ → List ℕ → List ℕ
+log engine n unit round p f s = engine ∷ n ∷ unit ∷ 0 ∷ 0 ∷ 7 ∷ (two round ++ (p ++ (f ++ s)))
+
+-- marks, and the estimates of the lowest senders
+abbrev tally : ℕ → List ℕ → List ℕ
+tally marks es = two marks ++ take 64 (es ++ replicate 64 255)
+
+abbrev image : List ℕ → List ℕ → List ℕ → List ℕ
+image current checks seconds = current ++ (checks ++ seconds)
+
+abbrev unmarked : List ℕ → List ℕ
+unmarked current = image current (tally 0 []) (tally 0 [])
+
+-- kind, engine, n, sender, receiver, round, estimate, proposal
+abbrev message : ℕ → ℕ → ℕ → ℕ → ℕ → ℕ → List ℕ → List ℕ → List ℕ
+message kind engine n sender receiver round e p = kind ∷ engine ∷ n ∷ sender ∷ receiver ∷ 0 ∷ 0 ∷ 7 ∷ (two round ++ (e ++ p))
+
+abbrev zeros : List ℕ
+zeros = replicate 18 0
+
+-- buffers that held other bytes before
+abbrev junk : ℕ → List ℕ
+junk k = replicate k 170
+
+-- ---- cases
+
+-- number, log, image, output buffer, decision
+abbrev case : Call → ℕ → List ℕ → List ℕ → List ℕ → ℕ → Case
+case c k log image out d = record { call = c; expected = record { number = k; log = log; image = image; out = out; decision = d } }
+
+-- turned down with the number k: log and image keep their bytes, no decision; the output buffer is as given
+abbrev refused : ℕ → List ℕ → Call → Case
+refused k left (start engine n unit entry log image) = case (start engine n unit entry log image) k log image left none
+refused k left (keyOn log image) = case (keyOn log image) k log image left none
+refused k left (propose log image mileage out) = case (propose log image mileage out) k log image left none
+refused k left (deliver log image message out) = case (deliver log image message out) k log image left none
+
+-- accepted, with an image that has no marks
+abbrev gives : Call → List ℕ → List ℕ → List ℕ → ℕ → Case
+gives c log current out d = case c 0 log (unmarked current) out d
+
+-- calls of a unit at its log, without marks
+abbrev proposeTo : List ℕ → ℕ → Call
+proposeTo log mileage = propose log (unmarked log) mileage (junk 18)
+
+abbrev deliverTo : List ℕ → List ℕ → Call
+deliverTo log message = deliver log (unmarked log) message (junk 18)
+
+-- unit 0 of 3 in B, and of 4 in R: round, proposal, estimates
+abbrev unitB : ℕ → List ℕ → List ℕ → List ℕ → List ℕ
+unitB round p f s = log B 3 0 round p f s
+
+abbrev unitR : ℕ → List ℕ → List ℕ → List ℕ
+unitR round p f = log R 4 0 round p f blank
+
+abbrev freshB : List ℕ
+freshB = unitB 0 blank blank blank
+
+-- with proposal 6
+abbrev sixB : ℕ → List ℕ
+sixB round = unitB round (mileage 6) blank blank
+
+abbrev sixR : List ℕ
+sixR = unitR 0 (mileage 6) blank
+
+-- messages to everyone: kind, sender, round, estimate, proposal
+abbrev inB : ℕ → ℕ → ℕ → List ℕ → List ℕ → List ℕ
+inB kind sender round e p = message kind B 3 sender 255 round e p
+
+abbrev inR : ℕ → ℕ → List ℕ → List ℕ → List ℕ
+inR kind sender e p = message kind R 4 sender 255 0 e p
+
+abbrev first : List ℕ
+first = inB F 1 0 (mileage 5) (mileage 5)
+
+-- a log with n = 2
+abbrev bad : List ℕ
+bad = log B 2 0 0 blank blank blank
+
+-- the SECOND x of unit 2 after v and w of units 0 and 1, in R
+abbrev third : ℕ → ℕ → ℕ → Call
+third v w x = deliver sixR (image sixR (tally 0 []) (tally 3 (mileage v ++ mileage w))) (inR S 2 (mileage x) blank) (junk 18)
+
+-- round 9,999 in B, with a SECOND of unit 1
+abbrev ending : List ℕ
+ending = unitB 9999 blank blank blank
+
+abbrev oneThere : List ℕ
+oneThere = image ending (tally 0 []) (tally 2 (blank ++ mileage 5))
+
+abbrev cases : List Case
+cases =
+    -- 1: message of 17 bytes; then every buffer of every call, too short or too long
+    refused 1 zeros (deliverTo freshB (take 17 first))
+    ∷ refused 1 zeros (deliverTo freshB (first ++ two 0))
+    ∷ refused 1 zeros (deliver (take 19 freshB) (unmarked freshB) first (junk 18))
+    ∷ refused 1 zeros (deliver freshB (take 151 (unmarked freshB)) first (junk 18))
+    ∷ refused 1 (junk 17) (deliver freshB (unmarked freshB) first (junk 17))
+    ∷ refused 1 zeros (propose (freshB ++ two 0) (unmarked freshB) 5 (junk 18))
+    ∷ refused 1 zeros (propose freshB (unmarked freshB ++ two 0) 5 (junk 18))
+    ∷ refused 1 (junk 19) (propose freshB (unmarked freshB) 5 (junk 19))
+    ∷ refused 1 [] (keyOn (take 19 freshB) (junk 152))
+    ∷ refused 1 [] (keyOn freshB (junk 151))
+    ∷ refused 1 [] (start B 3 0 7 (junk 21) (junk 152))
+    ∷ refused 1 [] (start B 3 0 7 (junk 20) (junk 153))
+    -- 2: n = 2, as a setting and in a log; engine letter Z, unit 3 of 3, entry 0
+    ∷ refused 2 [] (start B 2 0 7 (junk 20) (junk 152))
+    ∷ refused 2 [] (start Z 3 0 7 (junk 20) (junk 152))
+    ∷ refused 2 [] (start B 3 3 7 (junk 20) (junk 152))
+    ∷ refused 2 [] (start B 3 0 0 (junk 20) (junk 152))
+    ∷ refused 2 [] (keyOn bad (junk 152))
+    ∷ refused 2 zeros (proposeTo bad 5)
+    ∷ refused 2 zeros (deliverTo bad first)
+    -- 3: log at round 4, image at 3; an estimate that does not fit; an image with a quorum of marks
+    ∷ refused 3 zeros (deliver (sixB 4) (unmarked (sixB 3)) first (junk 18))
+    ∷ refused 3 zeros (propose freshB (unmarked (unitB 0 blank (mileage 5) blank)) 5 (junk 18))
+    ∷ refused 3 zeros (propose freshB (image freshB (tally 0 []) (tally 3 (mileage 5 ++ mileage 5))) 5 (junk 18))
+    -- 4: kind letter Z; the empty message
+    ∷ refused 4 zeros (deliverTo freshB (inB Z 1 0 (mileage 5) (mileage 5)))
+    ∷ refused 4 zeros (deliverTo freshB zeros)
+    -- 5: K for unit 1, handed to 2
+    ∷ refused 5 zeros (deliverTo (log B 3 2 0 blank blank blank) (message K B 3 0 1 4 blank blank))
+    -- 6: 10,000,000 is refused, 9,999,999 accepted with its FIRST
+    ∷ refused 6 zeros (proposeTo freshB 10000000)
+    ∷ gives (proposeTo freshB 9999999) freshB (unitB 0 (mileage 9999999) blank blank) (inB F 0 0 (mileage 9999999) (mileage 9999999)) none
+    -- 7: n = 3, B, round 9,999, one SECOND there, another comes; the same again is accepted
+    ∷ refused 7 zeros (deliver ending oneThere (inB S 2 9999 (mileage 5) blank) (junk 18))
+    ∷ case (deliver ending oneThere (inB S 1 9999 (mileage 5) blank) (junk 18)) 0 ending oneThere zeros none
+    -- starting a unit; key-on
+    ∷ gives (start R 4 0 7 (junk 20) (junk 152)) (unitR 0 blank blank) (unitR 0 blank blank) [] none
+    ∷ gives (keyOn (unitB 4 (mileage 6) (mileage 5) split) (junk 152)) (unitB 4 (mileage 6) (mileage 5) split) (unitB 4 (mileage 6) (mileage 5) split) [] none
+    -- FIRST in B and in R
+    ∷ gives (deliverTo (sixB 0) first) (unitB 0 (mileage 6) (mileage 5) blank) (unitB 0 (mileage 6) (mileage 5) blank)
+    (inB C 0 0 (mileage 5) (mileage 5)) none
+    ∷ gives (deliverTo sixR (inR F 1 (mileage 5) (mileage 5))) (unitR 0 (mileage 6) (mileage 5)) (unitR 0 (mileage 6) (mileage 5))
+    (inR S 0 (mileage 5) (mileage 6)) none
+    -- a message below the unit's round, and a SKIP above it
+    ∷ gives (deliverTo (sixB 4) first) (sixB 4) (sixB 4) (message K B 3 0 1 4 blank (mileage 6)) none
+    ∷ gives (deliverTo freshB (message K B 3 1 0 4 blank (mileage 6))) freshB (sixB 4) zeros none
+    -- B, n = 3: one CHECK is marked; CHECKs 5 and 9 give split; two splits keep the proposal
+    ∷ case (deliverTo freshB (inB C 2 0 (mileage 9) (mileage 9))) 0 freshB
+    (image freshB (tally 4 (blank ++ (blank ++ mileage 9))) (tally 0 [])) zeros none
+    ∷ gives (deliver (sixB 0) (image (sixB 0) (tally 1 (mileage 5)) (tally 0 [])) (inB C 1 0 (mileage 9) (mileage 9)) (junk 18))
+    (unitB 0 (mileage 6) blank split) (unitB 0 (mileage 6) blank split) (inB S 0 0 split (mileage 6)) none
+    ∷ gives (deliver (sixB 0) (image (sixB 0) (tally 0 []) (tally 1 split)) (inB S 1 0 split blank) (junk 18)) (sixB 0) (sixB 1) zeros none
+    -- R, n = 4: SECONDs 5, 5, 9 give proposal 5; 5, 9, 2 give blank; 5, 5, 5 are decided
+    ∷ gives (third 5 5 9) sixR (unitR 1 (mileage 5) blank) zeros none
+    ∷ gives (third 5 9 2) sixR (unitR 1 blank blank) zeros none
+    ∷ gives (third 5 5 5) sixR (unitR 1 (mileage 5) blank) zeros 5
+    ∷ []
+
+-- lists that are the same have the same elements
+each-same : (cs : List Case) → map (λ c. answer (c .call)) cs ≡ map (λ c. c .expected) cs → Each (λ c. answer (c .call) ≡ c .expected) cs
+each-same [] e = tt
+each-same (c ∷ cs) e = (ap (λ (l : List Called). getD l 0 (c .expected)) e, each-same cs (ap (drop 1) e))
+
+pub all-hold : Each (λ c. answer (c .call) ≡ c .expected) cases
+unfolding ones holders allHold common firstPassing lowest leads majority noMarks mark gatheredFrom gathered
+    mileageOrBlank mileageOrSplit secondFits sameMileage stateOk logOk every placeOk placesOk tallyOk checksAllowed imageOk sameSettings stateFits fits
+    firstOk checkOk secondOk skipOk kindOk messageOk numAt bytesOf readLog readMessage cleared readImage imageBytes firstOf atLog downUnit says logWrite
+    atRound fresh recovered sendFirst proposed takeFirst onFirst isFull takeSecond countCheck checksWith onCheck nextProposal close countSecond
+    secondsWith onSecond onKind skip caughtUp received forOther outOfRange closesLast unitLengths badLog badSettings badImage badMessage logBytes
+    messageBytes startCallRows startCall keyOnCallRows keyOnCall proposeCallRows proposeCall deliverCallRows deliverCall
+all-hold = each-same cases refl
