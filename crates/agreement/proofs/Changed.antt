@@ -1,4 +1,4 @@
--- One unit changed, what it sent and decided added: the invariant stays. For deliveries, cuts, key-offs and key-ons alike. Assumes nothing.
+-- One unit changed, what it sent and decided added: the invariant stays. For all five events of contents alike. Assumes nothing.
 use Prim.Native.Nat.{ℕ, _<_}
 use mathlib.Core.Path.{_≡_, refl, sym, subst, _∙_}
 use mathlib.Core.Bool.{Bool, true, false, cond}

@@ -1,10 +1,11 @@
 -- Two histories computed: the scope paper's listing, with its cut and its key-on, to its five messages and its decision; one of R. Assumes nothing.
 use Prim.Native.Nat.{ℕ}
 use mathlib.Core.Path.{_≡_, refl}
-use mathlib.Core.List.{List, [], _∷_, _++_}
+use mathlib.Core.List.{List, [], _∷_, _++_, map}
 use lib.Count.{ones}
 use lib.ListN.{replicate, getElem?}
 use mathlib.Core.Option.{some}
+use Rattle.tally.specs.Count.{upTo}
 use Rattle.tally.specs.Limits.{today, logSize, imageSize, messageSize}
 use Rattle.tally.specs.declared.Engine.the-variants.{B, R}
 use Rattle.tally.specs.Gathered.{holders, allHold, common, firstPassing, leads, majority}
@@ -24,7 +25,8 @@ use Rattle.consensus.specs.Step.{checksWith, onCheck, nextProposal, close, coun
 use Rattle.consensus.specs.Methods.{forOther, outOfRange, closesLast, unless, proposeRows, propose, deliverRows, deliver, keyOn}
 use Rattle.mileage.specs.Calls.{unitLengths, badLog, badSettings, badImage, badMessage, logBytes, messageBytes, startCallRows, startCall, keyOnCallRows}
 use Rattle.mileage.specs.Calls.{keyOnCall, proposeCallRows, proposeCall, deliverCallRows, deliverCall}
-use Rattle.agreement.specs.Bytes.{ByteWorld, up, Event, proposal, delivery, cut, off, on, begun, after, afterProposal, afterCut, afterKeyOn, proposalOf}
+use Rattle.agreement.specs.Bytes.{startOf, ByteWorld, up, Event, proposal, delivery, cut, off, on, begun, after, afterProposal, afterCut, afterKeyOn}
+use Rattle.agreement.specs.Bytes.{proposalOf}
 use Rattle.agreement.specs.Bytes.{delivering, keyOnOf, step}
 use Rattle.agreement.specs.Worlds.{Setup, run}
 
@@ -38,10 +40,26 @@ out = junk (messageSize today)
 abbrev on′ : ℕ → Event
 on′ u = on u (junk (imageSize today))
 
-abbrev after′ : Setup → List Event → ByteWorld
-after′ c es = run (step today (c .n)) (begun today c (λ u. junk (logSize today)) (λ u. junk (imageSize today))) es
+abbrev logs : ℕ → List ℕ
+logs u = junk (logSize today)
 
--- numbers and blank, as they are stored
+abbrev images : ℕ → List ℕ
+images u = junk (imageSize today)
+
+-- the numbers of the starts, and the world after the events
+abbrev starts : Setup → List ℕ
+starts c = map (λ u. startOf today c logs images u .number) (upTo (c .n))
+
+abbrev after′ : Setup → List Event → ByteWorld
+after′ c es = run (step today (c .n)) (begun today c logs images) es
+
+abbrev of3 : Setup
+of3 = record { engine = B; n = 3; entry = 7 }
+
+abbrev of4 : Setup
+of4 = record { engine = R; n = 4; entry = 7 }
+
+-- blank, as it is stored
 abbrev blank : List ℕ
 blank = replicate 4 255
 
@@ -92,7 +110,7 @@ pub record Listed (w : ByteWorld) : Type 0 where
   pub decided : w .decided ≡ record { unit = 2; round = 0; mileage = 412077 } ∷ []
   pub unit-0 : w .units 0 ≡ up log (log ++ (unmarked ++ unmarked))
 
--- ---- R: SECONDs 5, 5, 9 make 5 the majority of round 0; round 1, which units 0 to 2 catch up with, decides it; an old SECOND is skipped
+-- ---- R: SECONDs 5, 5, 9 make 5 the majority of round 0; round 1, which units 0 to 2 catch up with, decides it; an old SECOND is answered by SKIP
 
 abbrev of-r : List Event
 of-r =
@@ -128,7 +146,8 @@ pub record Majority (w : ByteWorld) : Type 0 where
 
 -- ---- both
 
-pub computed : Listed (after′ (record { engine = B; n = 3; entry = 7 }) listing) × Majority (after′ (record { engine = R; n = 4; entry = 7 }) of-r)
+-- all starts are accepted
+pub computed : (starts of3 ≡ replicate 3 0) × (Listed (after′ of3 listing) × ((starts of4 ≡ replicate 4 0) × Majority (after′ of4 of-r)))
 unfolding ones holders allHold common firstPassing leads majority noMarks mark gatheredFrom gathered
     mileageOrBlank mileageOrSplit secondFits sameMileage stateOk logOk every placeOk placesOk tallyOk checksAllowed imageOk sameSettings stateFits fits
     firstOk checkOk secondOk skipOk kindOk messageOk numAt bytesOf readLog readMessage cleared readImage imageBytes firstOf atLog downUnit says logWrite
@@ -137,6 +156,9 @@ unfolding ones holders allHold common firstPassing leads majority noMarks mark g
     badLog badSettings badImage badMessage logBytes messageBytes startCallRows startCall keyOnCallRows keyOnCall proposeCallRows proposeCall
     deliverCallRows deliverCall run begun after afterProposal afterCut afterKeyOn proposalOf delivering keyOnOf step
 computed = (
-  record { sent = refl; proposed = refl; decided = refl; unit-0 = refl },
-  record { proposed = refl; decided = refl; first = refl; skip = refl },
+  refl,
+  (
+    record { sent = refl; proposed = refl; decided = refl; unit-0 = refl },
+    (refl, record { proposed = refl; decided = refl; first = refl; skip = refl }),
+  ),
 )

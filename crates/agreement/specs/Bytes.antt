@@ -29,8 +29,8 @@ down log = record { log = log; image = none }
 abbrev pub ByteWorld : Type 0
 ByteWorld = World UnitBytes (List ℕ)
 
--- a buffer that a host lends: the log or the image of a unit, or any other; only refused calls have such buffers here, so that two of a call may
--- be the same
+-- a buffer that a host lends: the log or the image of a unit, or any other. Two of one call may be the same, which does no harm: such a call is
+-- an event only where it is refused
 pub data Lent : Type 0 where
   logOf imageOf : ℕ → Lent
   other : List ℕ → Lent

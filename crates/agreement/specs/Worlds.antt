@@ -111,7 +111,7 @@ pub record Seconded {U M : Type 0} (view : View U M) (w : World U M) (d : Decisi
   pub estimate : message .estimate ≡ Mileage (d .mileage)
 
 module _ {U M E : Type 0} (step : World U M → E → World U M) where
-  -- d is a decision that the events es from the world w on have left
+  -- d is among the decisions reported by the end of the events es from the world w on, those of w too
   abbrev pub Reported : World U M → List E → Decision → Type 0
   Reported w es d = List·Memᴰ d (run step w es .decided)
 
@@ -119,7 +119,7 @@ module _ {U M E : Type 0} (step : World U M → E → World U M) where
 pub record Agreed {U M E : Type 0} (c : Setup) (view : View U M) (step : World U M → E → World U M) (w : World U M) (es : List E) : Type 0 where
   -- no two decisions differ
   pub same : (a b : Decision) → Reported step w es a → Reported step w es b → a .mileage ≡ b .mileage
-  -- each was proposed before: what is decided after an event was given by an accepted proposal event before it
+  -- each was proposed before: the mileage of each decision reported by an event was given by an accepted proposal event before that event
   pub proposed : (before after : List E) (e : E) → es ≡ before ++ (e ∷ after) → (d : Decision) → Reported step w (before ++ (e ∷ [])) d
       → Given (d .mileage) (run step w before)
   -- no log, at any time, in a round above a decision's has another proposal

@@ -1,4 +1,4 @@
--- What every answer of a step has: no refusal, and the unit's power. Assumes nothing.
+-- What every answer of a step has: no refusal, and the unit's power; a proposal writes no log and decides nothing. Assumes nothing.
 use Prim.Native.Nat.{ℕ}
 use mathlib.Core.Path.{_≡_, refl}
 use mathlib.Core.Bool.{Bool, true, false, cond}

@@ -188,7 +188,7 @@ decided-common v = refl
 pub decided-split : decided Split ≡ Blank
 decided-split = refl
 
--- ---- the calls
+-- ---- the methods
 
 none-first : (rows : List Row) → NoneHolds rows → firstOf rows ≡ Refusal.None
 unfolding firstOf

@@ -94,7 +94,7 @@ module _ (l : Limits) (u : U.Unit) (m : Message) where
         quorum = leb-true _ _ (a .1);
       }
 
--- ---- the calls
+-- ---- the methods
 
 refused : (rows : List Row) (u : U.Unit) (a : Answer) (k : Refusal) → firstOf rows ≡ k → eqb (numberOf k) 0 ≡ false
     → Refuses (numberOf k) u (unless rows u a)

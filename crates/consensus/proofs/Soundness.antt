@@ -1,4 +1,4 @@
--- Every call of a well-formed unit, reachable or not, accepted or refused, leaves what `Sound` says. Assumes nothing.
+-- Every method of a well-formed unit, reachable or not, accepted or refused, leaves what `Sound` says. Assumes nothing.
 use Prim.Native.Nat.{ℕ, _^_, _≤_, _<_}
 use mathlib.Core.Path.{_≡_, refl, sym, ap, subst, _∙_}
 use mathlib.Core.Bool.{Bool, true, false, not, _&&_, or-true}

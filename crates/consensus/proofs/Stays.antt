@@ -1,4 +1,4 @@
--- Within a round an estimate that is not blank stays, and the round never falls. Assumes nothing.
+-- In a delivery an estimate that is not blank stays while the round does, and the round never falls. Assumes nothing.
 use Prim.Native.Nat.{_≤_, _<_}
 use mathlib.Core.Path.{_≡_, refl, sym, _∙_}
 use mathlib.Core.Bool.{true, false}

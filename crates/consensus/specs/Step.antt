@@ -106,7 +106,8 @@ recovered u = atLog Up (u .settings) (u .logged)
 abbrev pub orIfBlank : Estimate → Estimate → Estimate
 orIfBlank a b = cond (isBlank a) b a
 
--- line 20: FIRST goes out with round and proposal, also where the proposal was there: it stands outside the test of line 18
+-- line 20: FIRST goes out with round and proposal, also where the proposal was there, as the scope paper has it; the listing's indentation
+-- has it under the test of line 18
 unfoldable pub sendFirst : U.Unit → Estimate → Answer
 sendFirst u p = sends (withCurrent u (withProposal (u .current) p)) First everyone p p
 
@@ -137,7 +138,8 @@ onFirst u m = cond (isBlank (u .current .first)) (takeFirst u (m .proposal)) (qu
 
 -- ---- B 27 to 35: CHECK
 
--- B 29 and 39, R 30: the marks are counted to find a quorum; at least, since the count of a well-formed image is below it
+-- B 29 and 39, R 30: the marks are counted to find a quorum. The source has =; the count of a well-formed image is below the quorum, so that
+-- at least is the same
 unfoldable pub isFull : U.Unit → Tally → Bool
 isFull u t = leb (quorumOf (u .settings .engine) (u .settings .n)) (ones (t .marks))
 

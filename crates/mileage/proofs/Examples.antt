@@ -206,7 +206,7 @@ cases =
     -- 6: 10,000,000 is refused, 9,999,999 accepted with its FIRST
     ∷ refused 6 zeros (proposeTo freshB 10000000)
     ∷ gives (proposeTo freshB 9999999) freshB (unitB 0 (mileage 9999999) blank blank) (inB F 0 0 (mileage 9999999) (mileage 9999999)) none
-    -- 7: n = 3, B, round 9,999, one SECOND there, another comes; the same again is accepted
+    -- 7: n = 3, B, round 9,999, one SECOND there, another comes; the SECOND of the marked sender again is accepted
     ∷ refused 7 zeros (deliver ending oneThere (inB S 2 9999 (mileage 5) blank) (junk 18))
     ∷ case (deliver ending oneThere (inB S 1 9999 (mileage 5) blank) (junk 18)) 0 ending oneThere zeros none
     -- starting a unit; key-on

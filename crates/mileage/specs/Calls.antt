@@ -53,7 +53,7 @@ unlessRow l rows log image out ok =
 abbrev pub wrongLength : List ℕ → ℕ → Bool
 wrongLength bs k = not (eqb (length bs) k)
 
--- of what a unit has
+-- 1, of a unit's log and image
 unfoldable pub unitLengths : Limits → List ℕ → List ℕ → Bool
 unitLengths l log image = wrongLength log (logSize l) || wrongLength image (imageSize l)
 
@@ -65,7 +65,7 @@ unread r = not (eqb (r .number) 0)
 unfoldable pub badLog : Limits → List ℕ → Bool
 badLog l log = unread (readLog l log)
 
--- 2: fresh-unit settings out of range; an unknown engine letter is
+-- 2: fresh-unit settings out of range; an unknown engine letter counts as such
 unfoldable pub badSettings : EngineRead → ℕ → ℕ → ℕ → Bool
 badSettings Unknown n unit entry = true
 badSettings (Is g) n unit entry = not (numbersOk n unit entry)
