@@ -1,7 +1,7 @@
 -- Closing a round: what a full tally of votes sent makes sure, decided and next. Assumes nothing.
 use Prim.Native.Nat.{ℕ, _+_, _≤_, _<_}
 use mathlib.Core.Path.{_≡_, refl, sym, subst, _∙_}
-use mathlib.Core.Bool.{Bool, true, false, _&&_}
+use mathlib.Core.Bool.{Bool, true, false}
 use native.Mathlib.Decide.{decLt}
 use native.Mathlib.Omega.{arith}
 use borrow.Author.Tests.{eqb-true, eqb-false, not-true}
@@ -10,7 +10,7 @@ use lib.Dec.{eqb}
 use lib.ListN.{length}
 use Rattle.tally.specs.Count.{count}
 use Rattle.tally.specs.Gathered.{holds, common, lowest}
-use Rattle.tally.specs.Limits.{Limits, everyone}
+use Rattle.tally.specs.Limits.{Limits}
 use Rattle.tally.specs.Quorum.{quorumOf}
 use Rattle.tally.specs.Tally.{held, mark, noMarks, gathered}
 use Rattle.tally.specs.declared.Engine.{Engine}
@@ -22,11 +22,12 @@ use Rattle.tally.proofs.Count.{count-mono}
 use Rattle.tally.proofs.Never.{never}
 use Rattle.tally.proofs.Quorums.{quorum-half}
 use Rattle.tally.proofs.Tallies.{held-same, held-other}
-use Rattle.contents.specs.Estimates.{isB, isBlank, isMileage, mileageOrSplit, sameMileage}
-use Rattle.contents.specs.Messages.{kindOk, firstOk, checkOk, secondOk}
+use Rattle.contents.specs.Estimates.{isB, isBlank, mileageOrSplit}
+use Rattle.contents.specs.Messages.{kindOk}
 use Rattle.contents.specs.declared.Kind.{Kind}
 use Rattle.contents.specs.declared.Kind.the-variants.{Empty, First, Check, Second, Skip}
 use Rattle.contents.specs.declared.Message.{Message}
+use Rattle.contents.proofs.KindRules.{check-mileage, second-estimate}
 use Rattle.contents.proofs.Facts.{message-facts}
 use Rattle.contents.proofs.Tests.{both-true}
 use Rattle.consensus.specs.Step.{orIfBlank, decided, nextProposal}
@@ -41,15 +42,11 @@ use Rattle.agreement.proofs.Invariant.{Sent, Tallied, vote-sure, quorum
 
 -- a vote is a mileage or, in B, split
 vote-ok : (l : Limits) (k : Kind) (m : Message) → isVote k ≡ true → kindOk l k m ≡ true → mileageOrSplit l (m .engine) (m .estimate) ≡ true
-unfolding kindOk checkOk firstOk sameMileage secondOk mileageOrSplit
+unfolding mileageOrSplit
 vote-ok l Empty m t h = never t
 vote-ok l First m t h = never t
-vote-ok l Check m t h =
-    let a = both-true (eqb (m .receiver) everyone) _ (both-true (isB (m .engine)) (firstOk l m) h .1) in
-    rw (both-true (isMileage l (m .estimate)) _ (a .1) .0)
-vote-ok l Second m t h =
-    let a = both-true (eqb (m .receiver) everyone && mileageOrSplit l (m .engine) (m .estimate)) _ h in
-    both-true (eqb (m .receiver) everyone) _ (a .0) .1
+vote-ok l Check m t h = rw (check-mileage l m h .1 .0)
+vote-ok l Second m t h = second-estimate l m h
 vote-ok l Skip m t h = never t
 
 vote-filled : (l : Limits) (g : Engine) (e : Estimate) → mileageOrSplit l g e ≡ true → isBlank e ≡ false
@@ -64,15 +61,6 @@ unfolding mileageOrSplit
 vote-mileage l Blank h = never h
 vote-mileage l Split h = never h
 vote-mileage l (Mileage v) h = (v, refl)
-
--- CHECKs are of B
-pub check-b : (l : Limits) (m : Message) → kindOk l Check m ≡ true → m .engine ≡ B
-unfolding kindOk checkOk
-check-b l m h = go (m .engine) (both-true (isB (m .engine)) _ h .0)
-  where
-    go : (g : Engine) → isB g ≡ true → g ≡ B
-    go B h = refl
-    go R h = never h
 
 -- ---- tallies of votes
 

@@ -2,7 +2,7 @@
 use Prim.Native.Nat.{ℕ, zero, suc, _<_}
 use mathlib.Core.Path.{_≡_, refl, sym, ap, subst, _∙_}
 use mathlib.Core.Bool.{Bool, true, false, cond}
-use mathlib.Core.List.{List, [], _∷_, map, List·Memᴰ, List·Memᴰ·head, List·Memᴰ·tail}
+use mathlib.Core.List.{List, [], _∷_, map, List·Memᴰ}
 use mathlib.Core.Logic.{inl}
 use mathlib.Core.Option.{Option, none, some}
 use lib.Dec.{ltb}
@@ -23,6 +23,7 @@ use Rattle.agreement.specs.Bytes.{afterCut, ByteWorld, Event, proposal, 
 use Rattle.agreement.specs.Bytes.{after, step, LawfulEvent}
 use Rattle.agreement.specs.Contents.{ContentsWorld}
 use Rattle.agreement.proofs.Encoding.{unitBytesAt, sentBytes, Encodes, Valid, Follows, on-proposal, on-delivery, on-cut, on-off, on-key}
+use Rattle.agreement.proofs.History.{at-place}
 use Rattle.agreement.proofs.Refused.{has-log, on-call}
 
 -- the bytes of a message, if there is one
@@ -35,10 +36,9 @@ sent-at l [] k = refl
 sent-at l (m ∷ ms) zero = refl
 sent-at l (m ∷ ms) (suc k) = sent-at l ms k
 
-pub sent-in : (ms : List Message) (k : ℕ) (m : Message) → getElem? ms k ≡ some m → List·Memᴰ m ms
-sent-in [] k m h = never cc
-sent-in (x ∷ ms) zero m h = List·Memᴰ·head (let e : m ≡ x = cc in e)
-sent-in (x ∷ ms) (suc k) m h = List·Memᴰ·tail (sent-in ms k m h)
+sent-in : (ms : List Message) (k : ℕ) (m : Message) → getElem? ms k ≡ some m → List·Memᴰ m ms
+sent-in ms k m =
+    at-place (λ o. o ≡ some m → List·Memᴰ m ms) ms (λ h. never cc) (λ a i h. let e : a ≡ m = cc in subst (λ z. List·Memᴰ z ms) e i) k
 
 module _ (l : Limits) (sane : Sane l) (n : ℕ) (b : ByteWorld) (w : ContentsWorld) (enc : Encodes l n b w) (valid : Valid l n w) where
   -- an event of a unit below n; of another nothing comes

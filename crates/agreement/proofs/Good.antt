@@ -1,17 +1,15 @@
 -- Each branch of one unit's step is good against the messages sent before it. Assumes nothing.
 use Prim.Native.Nat.{ℕ, _^_, _≤_, _<_}
 use mathlib.Core.Path.{_≡_, refl, sym, ap, subst, _∙_}
-use mathlib.Core.Bool.{Bool, true, false, cond, _&&_, _||_}
+use mathlib.Core.Bool.{Bool, true, false}
 use mathlib.Core.List.{List}
 use mathlib.Core.Logic.{_⊎_, inl, inr}
 use native.Mathlib.Omega.{arith}
-use borrow.Author.Tests.{eqb-true, ltb-true, leb-true}
+use borrow.Author.Tests.{leb-true}
 use lib.Bits.{bitOr}
 use lib.Count.{ones}
-use lib.Dec.{eqb, ltb}
 use Rattle.tally.specs.Gathered.{common}
 use Rattle.tally.specs.Limits.{Limits}
-use Rattle.tally.specs.Refusal.{numberOf}
 use Rattle.tally.specs.Tally.{mark, noMarks, gathered}
 use Rattle.tally.specs.declared.Engine.{Engine}
 use Rattle.tally.specs.declared.Engine.the-variants.{B, R}
@@ -22,18 +20,18 @@ use Rattle.tally.specs.declared.Tally.{Tally}
 use Rattle.tally.proofs.Marks.{mark-adds}
 use Rattle.tally.proofs.Never.{never}
 use Rattle.tally.proofs.Quorums.{quorum-half}
-use Rattle.tally.proofs.Tallies.{typed-empty}
-use Rattle.contents.specs.Estimates.{isBlank, sameEstimate}
-use Rattle.contents.specs.Images.{sameSettings, stateFits, fits}
+use Rattle.contents.specs.Estimates.{isBlank}
+use Rattle.contents.specs.Images.{sameSettings, fits}
 use Rattle.contents.specs.declared.Kind.{Kind}
 use Rattle.contents.specs.declared.Kind.the-variants.{Empty, Check, Second}
 use Rattle.contents.specs.declared.Message.{Message}
 use Rattle.contents.specs.declared.State.{State}
 use Rattle.contents.proofs.Facts.{message-facts, image-facts}
-use Rattle.contents.proofs.Same.{same-estimate}
+use Rattle.contents.proofs.KindRules.{check-mileage}
+use Rattle.contents.proofs.Same.{Fits, state-fits}
 use Rattle.contents.proofs.Tests.{both-true}
-use Rattle.consensus.specs.Methods.{refuses, unless, proposeRows, propose, deliverRows, deliver, keyOff, keyOn}
-use Rattle.consensus.specs.Rows.{Row, firstOf}
+use Rattle.consensus.specs.Methods.{unless, proposeRows, propose, deliverRows, deliver, keyOff, keyOn}
+use Rattle.consensus.specs.Rows.{Row}
 use Rattle.consensus.specs.Step.{silence, quiet, says, withFirst, withSecond, logWrite, atRound, orIfBlank, sendFirst, proposed, voteKind, voteProposal}
 use Rattle.consensus.specs.Step.{takeFirst, isFull, takeSecond, checksWith, close, secondsWith, onKind, skip, received, recovered}
 use Rattle.consensus.specs.Units.{WellFormed, unitImage, atLog, downUnit}
@@ -41,10 +39,10 @@ use Rattle.consensus.specs.declared.Answer.{Answer}
 use Rattle.consensus.specs.declared.Power.{Power}
 use Rattle.consensus.specs.declared.Power.the-variants.{Down, Up}
 use Rattle.consensus.specs.declared.Unit as U
-use Rattle.consensus.proofs.Branches.{by-kind, by-check, by-second, by-round, unmarked-none}
-use Rattle.consensus.proofs.Full.{Proper, proper-mark, proper-unit}
+use Rattle.consensus.proofs.Branches.{by-kind, by-check, by-second, by-round, by-unless}
+use Rattle.consensus.proofs.Full.{Proper, proper-mark, proper-none, proper-unit}
 use Rattle.agreement.specs.Worlds.{Setup, settingsOf}
-use Rattle.agreement.proofs.Closing.{check-b, tallied-none, tallied-mark, kind-ok, filled, common-quorum, next-sure, chosen}
+use Rattle.agreement.proofs.Closing.{tallied-none, tallied-mark, kind-ok, filled, common-quorum, next-sure, chosen}
 use Rattle.agreement.proofs.Votes.{Of, of, isVote, Unique, quorum, Quorum, Sure, sure-of, Chosen}
 use Rattle.agreement.proofs.Invariant.{Backed, Sent, Member, half, slot, Stands, Kept, Tallied, Fair, quorum-sure}
 
@@ -57,26 +55,6 @@ pub record Good (c : Setup) (X : Message → Type 0) (A : ℕ → Type 0) (u r :
   pub decision : Of (Chosen c X A r) (a .decision)
 
 -- ---- well-formed units
-
--- an image is above its log, or in its round with both its estimates
-abbrev Fits : State → State → Type 0
-Fits i s = (s .round < i .round) ⊎ ((s .round ≡ i .round) × ((b : Bool) → half b s ≡ half b i))
-
-fit : (i s : State) → stateFits i s ≡ true → Fits i s
-unfolding stateFits
-fit i s h = go (eqb (i .round) (s .round) && sameEstimate (i .first) (s .first) && sameEstimate (i .second) (s .second)) refl h
-  where
-    go : (b : Bool) → (eqb (i .round) (s .round) && sameEstimate (i .first) (s .first) && sameEstimate (i .second) (s .second)) ≡ b
-        → (b || (ltb (s .round) (i .round) && isBlank (i .first) && isBlank (i .second))) ≡ true → Fits i s
-    go false e h = inl (ltb-true _ _ (both-true (ltb (s .round) (i .round)) _ (both-true _ _ h .0) .0))
-    go true e h =
-        let p = both-true _ _ e in
-        let q = both-true (eqb (i .round) (s .round)) _ (p .0) in
-        inr (sym (eqb-true (i .round) (s .round) (q .0)), each (sym (same-estimate _ _ (q .1))) (sym (same-estimate _ _ (p .1))))
-      where
-        each : s .first ≡ i .first → s .second ≡ i .second → (b : Bool) → half b s ≡ half b i
-        each p q true = q
-        each p q false = p
 
 -- what the branches use of a well-formed unit
 record Ready (c : Setup) (x : U.Unit) : Type 0 where
@@ -95,7 +73,7 @@ unfolding fits
 ready l c u x w =
     let p = proper-unit l (seated c u x) w in
     record {
-      fits = fit (x .current) (x .logged) (both-true (sameSettings (settingsOf c u) (settingsOf c u)) _ (w .fit) .1);
+      fits = state-fits (x .current) (x .logged) (both-true (sameSettings (settingsOf c u) (settingsOf c u)) _ (w .fit) .1);
       checks = p .0;
       seconds = p .1;
       few = image-facts l (unitImage (seated c u x)) (w .image) .seconds .few;
@@ -112,13 +90,7 @@ ready-above c x r p i h =
     go (inr q) = omega (arith, q .0)
 
     none : Proper (c .n) noMarks
-    none =
-        record {
-          typed = typed-empty;
-          low = i .checks .low;
-          only = λ u a b. unmarked-none u;
-          vote = λ s b m. never (sym (unmarked-none s) ∙ m);
-        }
+    none = proper-none (c .n) (i .checks .low)
 
 module _ (c : Setup) (X : Message → Type 0) (A : ℕ → Type 0) where
   -- without marks
@@ -163,12 +135,7 @@ module _ (c : Setup) (X : Message → Type 0) (A : ℕ → Type 0) where
   -- a call that one of its rows refuses changes nothing
   good-unless : (u r : ℕ) (rows : List Row) (x : U.Unit) (a : Answer) → Fair c X A x → Kept c X u (x .logged) → Good c X A u r a
       → Good c X A u r (unless rows x a)
-  unfolding unless
-  good-unless u r rows x a f kept good = go (eqb (numberOf (firstOf rows)) 0)
-    where
-      go : (b : Bool) → Good c X A u r (cond b a (refuses x (firstOf rows)))
-      go true = good
-      go false = good-silent (firstOf rows) u r x f kept
+  good-unless u r rows x a f kept good = by-unless (Good c X A u r) rows x a good (λ k. good-silent k u r x f kept)
 
   module _ (u r : ℕ) (x : U.Unit) (f : Fair c X A x) (kept : Kept c X u (x .logged)) where
     rest : (p : Power) → Good c X A u r (quiet (atLog p (x .settings) (x .logged)))
@@ -196,6 +163,11 @@ module _ (l : Limits) (c : Setup) (X : Message → Type 0) (A : ℕ → Type 0) 
         → Kept c X u s
     kept-on s same stays m here t by = go (i .fits) (kept m here t by)
       where
+        halves : (x .logged .first ≡ x .current .first) × (x .logged .second ≡ x .current .second) → (b : Bool)
+            → half b (x .logged) ≡ half b (x .current)
+        halves p true = p .1
+        halves p false = p .0
+
         k : Bool
         k = slot (c .engine) (m .kind)
 
@@ -204,7 +176,7 @@ module _ (l : Limits) (c : Setup) (X : Message → Type 0) (A : ℕ → Type 0) 
         go (inl h) (inr i) = inl (omega (arith, i .0))
         go (inr h) (inl i) = inl (omega (arith, h .0))
         go (inr h) (inr i) =
-            let e : half k (x .current) ≡ m .estimate = sym (h .1 k) ∙ i .1 in
+            let e : half k (x .current) ≡ m .estimate = sym (halves (h .1) k) ∙ i .1 in
             inr (i .0 ∙ h .0 ∙ sym same, stays k (rw e (filled l c X A sent m here t)) ∙ e)
 
     module _ (m : Message) (here : X m) (same : m .round ≡ x .current .round) where
@@ -301,7 +273,7 @@ module _ (l : Limits) (c : Setup) (X : Message → Type 0) (A : ℕ → Type 0) 
                 let p = proper-with Check refl e (x .checks) (i .checks) (f .checks) in
                 let t = tallied-with Check refl e (x .checks) (i .checks) (f .checks) in
                 by-check (Good c X A u (x .current .round)) (seated c u x) (checksWith (seated c u x) m)
-                (λ h. good-check (sym (sent m here .from .engine) ∙ check-b l m (kind-ok l c X A sent Check m here e)) free _ p t (leb-true _ _ h))
+                (λ h. good-check (sym (sent m here .from .engine) ∙ check-mileage l m (kind-ok l c X A sent Check m here e) .0) free _ p t (leb-true _ _ h))
                 (λ h. good-silent c X A Refusal.None u _ _ (record { logged = f .logged; current = f .current; checks = t; seconds = f .seconds }) kept);
             seconds = λ e n.
                 let p = proper-with Second refl e (x .seconds) (i .seconds) (f .seconds) in

@@ -66,7 +66,7 @@ module _ {A : Type 0} where
       go (inr m) = inr (subst P (sym (List·Memᴰ·eq-of-singleton m)) p)
 
   -- what is found at a place is in the list
-  at-place : (P : Option A → Type 0) (xs : List A) → P none → ((a : A) → List·Memᴰ a xs → P (some a)) → (k : ℕ) → P (getElem? xs k)
+  pub at-place : (P : Option A → Type 0) (xs : List A) → P none → ((a : A) → List·Memᴰ a xs → P (some a)) → (k : ℕ) → P (getElem? xs k)
   at-place P [] p f k = p
   at-place P (x ∷ xs) p f zero = f x (List·Memᴰ·head refl)
   at-place P (x ∷ xs) p f (suc k) = at-place P xs p (λ a h. f a (List·Memᴰ·tail h)) k

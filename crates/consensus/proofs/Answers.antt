@@ -1,21 +1,16 @@
 -- What every answer of a step has: no refusal, and the unit's power; a proposal writes no log and decides nothing. Assumes nothing.
 use Prim.Native.Nat.{ℕ}
 use mathlib.Core.Path.{_≡_, refl}
-use mathlib.Core.Bool.{Bool, true, false, cond}
-use mathlib.Core.List.{List}
-use lib.Dec.{eqb}
-use Rattle.tally.specs.Refusal.{numberOf}
 use Rattle.tally.specs.Limits.{Limits}
 use Rattle.tally.specs.declared.Estimate.the-variants.{Blank}
 use Rattle.tally.specs.declared.Refusal.{Refusal}
 use Rattle.contents.specs.declared.Message.{Message}
-use Rattle.consensus.specs.Methods.{refuses, unless, proposeRows, propose, deliverRows, deliver}
-use Rattle.consensus.specs.Rows.{Row, firstOf}
+use Rattle.consensus.specs.Methods.{proposeRows, propose, deliverRows, deliver}
 use Rattle.consensus.specs.Step.{logWrite, atRound, sendFirst, proposed, takeFirst, takeSecond, checksWith, close, secondsWith, onKind, skip, received}
 use Rattle.consensus.specs.Units.{unitLog}
 use Rattle.consensus.specs.declared.Answer.{Answer}
 use Rattle.consensus.specs.declared.Unit as U
-use Rattle.consensus.proofs.Branches.{by-round, by-kind, by-check, by-second}
+use Rattle.consensus.proofs.Branches.{by-round, by-kind, by-check, by-second, by-unless}
 
 -- an answer of the unit u that refuses nothing
 pub record Plain (u : U.Unit) (a : Answer) : Type 0 where
@@ -42,32 +37,24 @@ unfolding proposed sendFirst
 plain-proposed u v = record { none = refl; power = refl }
 
 -- a refusal keeps the unit, and so its power
-unless-power : (rows : List Row) (u : U.Unit) (a : Answer) → a .unit .power ≡ u .power → unless rows u a .unit .power ≡ u .power
-unfolding unless
-unless-power rows u a h = go (eqb (numberOf (firstOf rows)) 0)
-  where
-    go : (b : Bool) → cond b a (refuses u (firstOf rows)) .unit .power ≡ u .power
-    go true = h
-    go false = refl
-
 pub propose-power : (l : Limits) (u : U.Unit) (v : ℕ) → propose l u v .unit .power ≡ u .power
 unfolding propose
-propose-power l u v = unless-power (proposeRows l u v) u (proposed u v) (plain-proposed u v .power)
+propose-power l u v =
+    by-unless (λ a. a .unit .power ≡ u .power) (proposeRows l u v) u (proposed u v) (plain-proposed u v .power) (λ k. refl)
 
 pub deliver-power : (l : Limits) (u : U.Unit) (m : Message) → deliver l u m .unit .power ≡ u .power
 unfolding deliver
-deliver-power l u m = unless-power (deliverRows l u m) u (received u m) (plain-received u m .power)
+deliver-power l u m =
+    by-unless (λ a. a .unit .power ≡ u .power) (deliverRows l u m) u (received u m) (plain-received u m .power) (λ k. refl)
 
 -- a proposal writes no log and decides nothing
-pub proposed-keeps : (u : U.Unit) (v : ℕ) → (unitLog (proposed u v .unit) ≡ unitLog u) × (proposed u v .decision ≡ Blank)
+abbrev pub Keeps : U.Unit → Answer → Type 0
+Keeps u a = (unitLog (a .unit) ≡ unitLog u) × (a .decision ≡ Blank)
+
+pub proposed-keeps : (u : U.Unit) (v : ℕ) → Keeps u (proposed u v)
 unfolding proposed sendFirst
 proposed-keeps u v = (refl, refl)
 
-pub propose-keeps : (l : Limits) (u : U.Unit) (v : ℕ) → (unitLog (propose l u v .unit) ≡ unitLog u) × (propose l u v .decision ≡ Blank)
-unfolding propose unless
-propose-keeps l u v = go (eqb (numberOf (firstOf (proposeRows l u v))) 0) (firstOf (proposeRows l u v))
-  where
-    go : (b : Bool) (k : Refusal)
-        → (unitLog (cond b (proposed u v) (refuses u k) .unit) ≡ unitLog u) × (cond b (proposed u v) (refuses u k) .decision ≡ Blank)
-    go true k = proposed-keeps u v
-    go false k = (refl, refl)
+pub propose-keeps : (l : Limits) (u : U.Unit) (v : ℕ) → Keeps u (propose l u v)
+unfolding propose
+propose-keeps l u v = by-unless (Keeps u) (proposeRows l u v) u (proposed u v) (proposed-keeps u v) (λ k. (refl, refl))

@@ -28,8 +28,6 @@ use Rattle.consensus.specs.Step.{onKind, skip, caughtUp, received}
 use Rattle.consensus.specs.declared.Answer.{Answer}
 use Rattle.consensus.specs.declared.Unit as U
 
--- ---- all branches at once: what holds of each branch's answer holds of the step's
-
 module _ (P : Answer → Type 0) where
   by-test : (b : Bool) {x y : Answer} → (b ≡ true → P x) → (b ≡ false → P y) → P (cond b x y)
   by-test true f g = f refl
@@ -75,6 +73,11 @@ module _ (P : Answer → Type 0) where
           → P (onKind (m .kind) (cond b (atRound u (m .round) (m .proposal)) u) m)
       go le true e = above (ltb-true _ _ e)
       go le false e = at (omega (arith, ltb-false (u .current .round) (m .round) e))
+
+  -- a method answers, or refuses
+  pub by-unless : (rows : List Row) (u : U.Unit) (a : Answer) → P a → ((k : Refusal) → P (refuses u k)) → P (unless rows u a)
+  unfolding unless
+  by-unless rows u a answered refused = by-test (eqb (numberOf (firstOf rows)) 0) (λ e. answered) (λ e. refused (firstOf rows))
 
   -- rows whose number is not 0, of which one refuses or none holds
   pub by-rows : (rows : List Row) (u : U.Unit) (a : Answer) → Each (λ r. eqb (rowNumber r) 0 ≡ false) rows → ((k : Refusal) → P (refuses u k))

@@ -2,31 +2,29 @@
 use Prim.Native.Nat.{ℕ, zero, suc, _+_, _-_, _≤_, _<_}
 use mathlib.Core.Path.{_≡_, refl, sym, ap, _∙_}
 use mathlib.Core.Bool.{Bool, true, false, cond, not, _&&_}
-use mathlib.Core.List.{List, [], _∷_}
+use mathlib.Core.List.{List}
 use native.Mathlib.Decide.{decLt}
 use native.Mathlib.Omega.{arith}
 use lib.Count.{ones}
 use lib.Dec.{eqb}
 use lib.ListN.{length}
-use lib.Seq.{getD-set-same, getD-set-other}
 use borrow.Author.Tests.{eqb-true, eqb-false}
 use Rattle.tally.specs.Count.{bump, passing, count}
-use Rattle.tally.specs.Gathered.{anyMileage, holds, holders, common, lowest, firstPassing, majority}
+use Rattle.tally.specs.Gathered.{anyMileage, holds, holders, common, lowest, majority}
 use Rattle.tally.specs.Limits.{Limits, senders, maxUnits}
 use Rattle.tally.specs.Quorum.{quorumOf, majorityOf}
-use Rattle.tally.specs.Tally.{Typed, OnlyBelow, isMarked, blankCell, placed, held, mark, gathered}
-use Rattle.tally.specs.declared.Cell.{Cell}
+use Rattle.tally.specs.Tally.{Typed, OnlyBelow, noMarks, isMarked, placed, held, mark, gathered}
 use Rattle.tally.specs.declared.Engine.{Engine}
 use Rattle.tally.specs.declared.Engine.the-variants.{R}
 use Rattle.tally.specs.declared.Estimate.{Estimate}
 use Rattle.tally.specs.declared.Estimate.the-variants.{Blank, Split, Mileage}
 use Rattle.tally.specs.declared.Tally.{Tally}
-use Rattle.tally.proofs.Count.{count-mono, count-below}
-use Rattle.tally.proofs.Gathered.{all-counted, common-all, lowest-held, lowest-none, majority-held, majority-found, others-block}
+use Rattle.tally.proofs.Count.{count-mono, count-below, each}
+use Rattle.tally.proofs.Gathered.{all-counted, common-all, lowest-held, lowest-none, majority-held, majority-found, others-block, found}
 use Rattle.tally.proofs.Marks.{mark-other}
 use Rattle.tally.proofs.Never.{never}
 use Rattle.tally.proofs.Quorums.{majority-over-half}
-use Rattle.tally.proofs.Tallies.{passing-senders, length-gathered, holders-senders, ones-units, typed-mark}
+use Rattle.tally.proofs.Tallies.{passing-senders, length-gathered, holders-senders, ones-units, typed-mark, placed-same, placed-other, typed-empty}
 use Rattle.contents.specs.Estimates.{isBlank, isB}
 use Rattle.contents.specs.Images.{markedOk}
 use Rattle.contents.proofs.Facts.{TallyFacts, image-facts, log-facts, only-below}
@@ -34,6 +32,7 @@ use Rattle.contents.proofs.Tests.{both-true}
 use Rattle.consensus.specs.Step.{nextProposal}
 use Rattle.consensus.specs.Units.{WellFormed, unitLog, unitImage}
 use Rattle.consensus.specs.declared.Unit as U
+use Rattle.consensus.proofs.Branches.{unmarked-none}
 
 -- only units below n are marked, none with blank
 pub record Proper (n : ℕ) (t : Tally) : Type 0 where
@@ -174,31 +173,23 @@ module _ (n : ℕ) (t : Tally) (p : Proper n t) where
         vote = λ u c h. go u c h (eqb u s) refl;
       }
     where
-      new : Cell
-      new = record { estimate = e }
-
       go : (u : ℕ) → u < senders → isMarked (mark t s e .marks) u ≡ true → (x : Bool) → eqb u s ≡ x → isBlank (placed (mark t s e) u) ≡ false
-      go u c h true q =
-          let same = eqb-true u s q in
-          rw same (ap (λ (x : Cell). isBlank (x .estimate)) (getD-set-same (t .cells) s new blankCell (omega (arith, p .typed .cells, p .low))) ∙ nonblank)
+      go u c h true q = rw (eqb-true u s q) (ap isBlank (placed-same t s e (omega (arith, p .typed .cells, p .low))) ∙ nonblank)
       go u c h false q =
           let other = eqb-false u s q in
-          ap (λ (x : Cell). isBlank (x .estimate)) (getD-set-other (t .cells) s u new blankCell other)
-          ∙ p .vote u c (sym (mark-other (t .marks) s u other) ∙ h)
+          ap isBlank (placed-other t s u e other) ∙ p .vote u c (sym (mark-other (t .marks) s u other) ∙ h)
 
--- what is found is never split
-first-not-split : (P : Estimate → Bool) → P Split ≡ false → (es : List Estimate) → firstPassing P es ≡ Split → ⊥
-unfolding firstPassing
-first-not-split P f [] h = never cc
-first-not-split P f (e ∷ es) h = go (first-not-split P f es) (P e) refl h
-  where
-    go : (firstPassing P es ≡ Split → ⊥) → (b : Bool) → P e ≡ b → cond b e (firstPassing P es) ≡ Split → ⊥
-    go ih true p h = never (sym f ∙ rw (sym h) p)
-    go ih false p h = ih h
+-- no marks
+pub proper-none : (n : ℕ) → n ≤ senders → Proper n noMarks
+unfolding noMarks
+proper-none n low =
+    record { typed = typed-empty; low = low; only = λ u a b. unmarked-none u; vote = λ s b m. never (sym (unmarked-none s) ∙ m) }
 
+-- the mileage seen is never split
 pub lowest-not-split : (es : List Estimate) → lowest es ≡ Split → ⊥
 unfolding lowest
-lowest-not-split es h = first-not-split anyMileage refl es h
+lowest-not-split es =
+    found anyMileage (λ e. e ≡ Split → ⊥) (λ h. never cc) es (each (λ e. anyMileage e ≡ true → e ≡ Split → ⊥) (λ e p h. never (rw h at p)) es)
 
 -- the tallies of a well-formed unit are proper
 proper-tally : (l : Limits) (split : Bool) (g : Engine) (n : ℕ) (t : Tally) → n ≤ maxUnits → Typed t → TallyFacts l split g n t → Proper n t

@@ -5,11 +5,10 @@ use mathlib.Core.Bool.{true, false, and-false}
 use mathlib.Core.List.{List, [], _∷_}
 use native.Mathlib.Omega.{arith}
 use lib.Count.{ones}
-use borrow.Author.Tests.{lt-ltb, le-ltb, le-leb, lt-leb, ne-eqb}
+use borrow.Author.Tests.{lt-ltb, le-ltb, le-leb, lt-leb}
 use Rattle.tally.specs.Gathered.{common, lowest, majority}
 use Rattle.tally.specs.Limits.{Limits, everyone}
 use Rattle.tally.specs.Quorum.{quorumOf}
-use Rattle.tally.specs.Refusal.{numberOf}
 use Rattle.tally.specs.Tally.{isMarked, mark, noMarks, gathered}
 use Rattle.tally.specs.declared.Engine.the-variants.{B, R}
 use Rattle.tally.specs.declared.Estimate.{Estimate}
@@ -196,14 +195,9 @@ none-first [] h = refl
 none-first (r ∷ rs) h = rw (h .0) (none-first rs (h .1))
 
 module _ (rows : List Row) (u : U.Unit) (a : Answer) where
-  pub unless-accepted : NoneHolds rows → unless rows u a ≡ a
+  unless-accepted : NoneHolds rows → unless rows u a ≡ a
   unfolding unless
   unless-accepted h = rw (none-first rows h)
-
-  pub unless-refused : (numberOf (firstOf rows) ≡ 0 → ⊥)
-      → unless rows u a ≡ record { refusal = firstOf rows; unit = u; message = nothing; decision = Blank }
-  unfolding unless
-  unless-refused h = rw (ne-eqb (numberOf (firstOf rows)) 0 h)
 
 pub propose-accepted : (l : Limits) (u : U.Unit) (v : ℕ) → NoneHolds (proposeRows l u v) → propose l u v ≡ proposed u v
 unfolding propose

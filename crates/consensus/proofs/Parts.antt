@@ -1,31 +1,29 @@
 -- A well-formed unit taken apart, and put together again. Assumes nothing.
 use Prim.Native.Nat.{ℕ, zero, suc, _≤_, _<_}
-use mathlib.Core.Path.{_≡_, refl, ap}
+use mathlib.Core.Logic.{inl, inr}
+use mathlib.Core.Path.{_≡_, refl}
 use mathlib.Core.Bool.{Bool, true, false, _&&_, _||_, or-true}
 use native.Mathlib.Omega.{arith}
 use lib.Count.{ones}
-use lib.Dec.{eqb, ltb}
-use lib.ListN.{length, replicate, getD-replicate}
-use lib.Seq.{getD-set-same, getD-set-other}
-use borrow.Author.Tests.{eqb-true, eqb-false, eq-eqb, le-leb, lt-ltb, ltb-true}
+use lib.Dec.{eqb}
+use lib.ListN.{replicate, getD-replicate}
+use borrow.Author.Tests.{eqb-true, eqb-false, eq-eqb, le-leb, lt-ltb}
 use Rattle.tally.specs.Limits.{Limits, senders}
 use Rattle.tally.specs.Tally.{Typed, isMarked, placed, blankCell, noMarks, mark}
-use Rattle.tally.specs.declared.Cell.{Cell}
 use Rattle.tally.specs.declared.Engine.{Engine}
 use Rattle.tally.specs.declared.Estimate.{Estimate}
 use Rattle.tally.specs.declared.Tally.{Tally}
-use Rattle.tally.proofs.Never.{never}
 use Rattle.tally.proofs.Marks.{mark-same, mark-other}
 use Rattle.tally.proofs.Quorums.{quorum-fits}
-use Rattle.tally.proofs.Tallies.{typed-empty}
-use Rattle.contents.specs.Estimates.{isB, isBlank, isSplit, isMileage, mileageOrBlank, secondFits, sameEstimate}
+use Rattle.tally.proofs.Tallies.{typed-empty, placed-same, placed-other}
+use Rattle.contents.specs.Estimates.{isB, isBlank, isSplit, isMileage, mileageOrBlank, secondFits}
 use Rattle.contents.specs.Images.{every, placeOk, placesOk, tallyOk, checksAllowed, imageOk, sameSettings, stateFits, fits}
 use Rattle.contents.specs.Logs.{settingsOk, stateOk, logOk}
 use Rattle.contents.specs.declared.Log.{Log}
 use Rattle.contents.specs.declared.Settings.{Settings}
 use Rattle.contents.specs.declared.State.{State}
 use Rattle.contents.proofs.Facts.{numbers-facts, StateFacts, state-facts, PlaceFacts, TallyFacts, image-facts}
-use Rattle.contents.proofs.Same.{estimate-same, settings-same}
+use Rattle.contents.proofs.Same.{estimate-same, settings-same, Fits, state-fits}
 use Rattle.contents.proofs.Tests.{both-true}
 use Rattle.consensus.specs.Step.{atRound, clean}
 use Rattle.consensus.specs.Units.{WellFormed, unitImage, atLog}
@@ -90,14 +88,11 @@ module _ (l : Limits) (split : Bool) (n : ℕ) where
       at : (x : ℕ) → x < senders → (b : Bool) → eqb x s ≡ b → PlaceFacts l split n x (isMarked (mark t s e .marks) x) (placed (mark t s e) x)
       at x b true q =
           let same : x ≡ s = eqb-true x s q in
-          let long : s < length (t .cells) = omega (arith, typed .cells) in
-          let taken : placed (mark t s e) s ≡ e = ap (λ (c : Cell). c .estimate) (getD-set-same (t .cells) s _ blankCell long) in
-          rw (same, mark-same (t .marks) s, taken)
+          rw (same, mark-same (t .marks) s, placed-same t s e (omega (arith, typed .cells)))
           (record { below = lt-ltb s n below; unmarked = refl; vote = vote })
       at x b false q =
           let apart = eqb-false x s q in
-          let kept : placed (mark t s e) x ≡ placed t x = ap (λ (c : Cell). c .estimate) (getD-set-other (t .cells) s x _ blankCell apart) in
-          rw (mark-other (t .marks) s x apart, kept) (f x b)
+          rw (mark-other (t .marks) s x apart, placed-other t s x e apart) (f x b)
 
 -- with what the types say
 pub record Tallied (l : Limits) (split : Bool) (s : Settings) (t : Tally) : Type 0 where
@@ -168,15 +163,11 @@ module _ (l : Limits) (u : U.Unit) where
 
 -- the image's round is not below the log's
 round-fits : (i r : State) → stateFits i r ≡ true → r .round ≤ i .round
-unfolding stateFits
-round-fits i r h = go (eqb (i .round) (r .round)) refl (ltb (r .round) (i .round)) refl h
+round-fits i r h = go (state-fits i r h)
   where
-    go : (a : Bool) → eqb (i .round) (r .round) ≡ a → (b : Bool) → ltb (r .round) (i .round) ≡ b
-        → (a && sameEstimate (i .first) (r .first) && sameEstimate (i .second) (r .second) || b && isBlank (i .first) && isBlank (i .second)) ≡ true
-        → r .round ≤ i .round
-    go true e b q h = omega (arith, eqb-true (i .round) (r .round) e)
-    go false e true q h = omega (arith, ltb-true (r .round) (i .round) q)
-    go false e false q h = never h
+    go : Fits i r → r .round ≤ i .round
+    go (inl above) = omega arith
+    go (inr same) = omega (arith, same .0)
 
 -- ---- units without marks
 

@@ -1,13 +1,13 @@
 -- Every method of a well-formed unit, reachable or not, accepted or refused, leaves what `Sound` says. Assumes nothing.
 use Prim.Native.Nat.{ℕ, _^_, _≤_, _<_}
 use mathlib.Core.Path.{_≡_, refl, sym, ap, subst, _∙_}
-use mathlib.Core.Bool.{Bool, true, false, not, _&&_, or-true}
+use mathlib.Core.Bool.{Bool, true, false, not, or-true}
 use mathlib.Core.List.{[], _∷_}
 use mathlib.Core.Logic.{inl, inr}
 use native.Mathlib.Omega.{arith}
 use lib.Bits.{bitOr}
 use lib.Count.{ones}
-use lib.Dec.{eqb, ltb}
+use lib.Dec.{eqb}
 use borrow.Author.Tests.{eqb-false, le-leb, leb-true, leb-false, lt-ltb, not-false}
 use Rattle.tally.specs.Gathered.{common}
 use Rattle.tally.specs.Limits.{Limits, everyone, senders}
@@ -29,12 +29,13 @@ use Rattle.contents.specs.Images.{checksAllowed, stateFits}
 use Rattle.contents.specs.Logs.{settingsOk, logOk, stateOk}
 use Rattle.contents.specs.Messages.{firstOk, checkOk, secondOk, skipOk, kindOk, messageOk}
 use Rattle.contents.specs.declared.Kind.{Kind}
-use Rattle.contents.specs.declared.Kind.the-variants.{Empty, First, Check, Second, Skip}
+use Rattle.contents.specs.declared.Kind.the-variants.{First, Check, Second, Skip}
 use Rattle.contents.specs.declared.Message.{Message}
 use Rattle.contents.specs.declared.Settings.{Settings}
+use Rattle.contents.proofs.KindRules.{first-mileage, check-mileage, second-estimate, mileage-blank, kind-proposal}
 use Rattle.contents.proofs.Facts.{StateFacts, numbers-facts, message-facts}
-use Rattle.contents.proofs.Same.{same-estimate, estimate-same}
-use Rattle.contents.proofs.Tests.{both-true, or-left}
+use Rattle.contents.proofs.Same.{estimate-same}
+use Rattle.contents.proofs.Tests.{or-left}
 use Rattle.consensus.specs.Methods.{forOther, outOfRange, isSecond, closesLast, refuses, unless}
 use Rattle.consensus.specs.Methods.{propose, proposeRows, deliver, deliverRows, keyOff, keyOn}
 use Rattle.consensus.specs.Rows.{row, NoneHolds}
@@ -96,27 +97,6 @@ module _ (l : Limits) where
   vote-ok v B e own q h o = and-both (ap isB q) (first-ok v Check e h)
   vote-ok v R e own q h o = second-ok v e own (or-first _ h) o
 
-  -- and what they say of a message received
-  same-mileage : (a b : Estimate) → sameMileage l a b ≡ true → (isMileage l a ≡ true) × (isMileage l b ≡ true)
-  unfolding sameMileage
-  same-mileage a b h = let p = both-true (isMileage l a) _ h in (p .0, rw (same-estimate a b (p .1)) at (p .0))
-
-  first-mileage : (m : Message) → firstOk l m ≡ true → (isMileage l (m .estimate) ≡ true) × (isMileage l (m .proposal) ≡ true)
-  unfolding firstOk
-  first-mileage m h = same-mileage (m .estimate) (m .proposal) (both-true (eqb (m .receiver) everyone) _ h .1)
-
-  mileage-blank : (e : Estimate) → isMileage l e ≡ true → mileageOrBlank l e ≡ true
-  unfolding mileageOrBlank
-  mileage-blank e h = or-first _ h
-
-  kind-proposal : (k : Kind) (m : Message) → kindOk l k m ≡ true → mileageOrBlank l (m .proposal) ≡ true
-  unfolding kindOk checkOk secondOk skipOk
-  kind-proposal Empty m h = never h
-  kind-proposal First m h = mileage-blank (m .proposal) (first-mileage m h .1)
-  kind-proposal Check m h = mileage-blank (m .proposal) (first-mileage m (both-true (isB (m .engine)) _ h .1) .1)
-  kind-proposal Second m h = both-true (eqb (m .receiver) everyone && mileageOrSplit l (m .engine) (m .estimate)) _ h .1
-  kind-proposal Skip m h = both-true (ltb (m .receiver) (m .n) && isBlank (m .estimate)) _ h .1
-
 -- ---- what delivering to u is given
 
 record Given (l : Limits) (s : Settings) (m : Message) : Type 0 where
@@ -174,10 +154,7 @@ module _ (l : Limits) (u v : U.Unit) (m : Message) (same : v .settings ≡ u .se
   -- CHECK is in B only
   module _ (k : m .kind ≡ Check) (blank : isBlank (v .current .second) ≡ true) where
     check-kind : (isB (v .settings .engine) ≡ true) × Vote l false (m .estimate)
-    unfolding kindOk checkOk
-    check-kind =
-        let a = both-true (isB (m .engine)) (firstOk l m) (i .kind Check k) in
-        (rw (i .engine) (a .0), or-first false (first-mileage l m (a .1) .0))
+    check-kind = let a = check-mileage l m (i .kind Check k) in (rw (i .engine ∙ a .0), or-first false (a .1 .0))
 
     check-short-sound : isFull v (checksWith v m) ≡ false → Sound l u (quiet (withChecks v (checksWith v m)))
     unfolding checksWith checksAllowed
@@ -216,10 +193,8 @@ module _ (l : Limits) (u v : U.Unit) (m : Message) (same : v .settings ≡ u .se
 
   module _ (k : m .kind ≡ Second) where
     second-vote : Vote l (isB (v .settings .engine)) (m .estimate)
-    unfolding kindOk secondOk mileageOrSplit
-    second-vote =
-        let a = both-true (eqb (m .receiver) everyone && mileageOrSplit l (m .engine) (m .estimate)) _ (i .kind Second k) in
-        rw (i .engine) (both-true (eqb (m .receiver) everyone) _ (a .0) .1)
+    unfolding mileageOrSplit
+    second-vote = rw (i .engine) (second-estimate l m (i .kind Second k))
 
     second-short-sound : isFull v (secondsWith v m) ≡ false → Sound l u (quiet (withSeconds v (secondsWith v m)))
     unfolding secondsWith
@@ -261,7 +236,7 @@ module _ (l : Limits) (u v : U.Unit) (m : Message) (same : v .settings ≡ u .se
         seconds = λ k free. by-second (Sound l u) v (secondsWith v m) (λ h. close-sound k (last k free h)) (second-short-sound k);
       })
 
--- ---- the calls
+-- ---- the methods
 
 module _ (l : Limits) (u : U.Unit) (w : WellFormed l u) where
   sound-refuses : (k : Refusal) → Sound l u (refuses u k)
@@ -282,12 +257,12 @@ module _ (l : Limits) (u : U.Unit) (w : WellFormed l u) where
   sound-key-on = sound-key Up _
 
 -- a proposal kept or given is a mileage
-or-else-mileage : (l : Limits) (a : Estimate) (v : ℕ) → mileageOrBlank l a ≡ true → inRange l v ≡ true
+or-blank-mileage : (l : Limits) (a : Estimate) (v : ℕ) → mileageOrBlank l a ≡ true → inRange l v ≡ true
     → isMileage l (orIfBlank a (Mileage v)) ≡ true
 unfolding mileageOrBlank
-or-else-mileage l Blank v h r = r
-or-else-mileage l Split v h r = never h
-or-else-mileage l (Mileage x) v h r = or-left (inRange l x) false h refl
+or-blank-mileage l Blank v h r = r
+or-blank-mileage l Split v h r = never h
+or-blank-mileage l (Mileage x) v h r = or-left (inRange l x) false h refl
 
 pub sound-propose : (l : Limits) (u : U.Unit) (v : ℕ) → WellFormed l u → Sound l u (propose l u v)
 unfolding propose proposeRows proposed sendFirst outOfRange kindOk stateFits
@@ -305,7 +280,7 @@ sound-propose l u v w =
     next = withCurrent u (withProposal (u .current) e)
 
     ok : NoneHolds (proposeRows l u v) → isMileage l e ≡ true
-    ok n = or-else-mileage l (u .current .proposal) v (p .states .current .proposal) (not-false (inRange l v) (n .1 .0))
+    ok n = or-blank-mileage l (u .current .proposal) v (p .states .current .proposal) (not-false (inRange l v) (n .1 .0))
 
     changed : NoneHolds (proposeRows l u v) → Parts l next
     changed n = let c = p .states .current in

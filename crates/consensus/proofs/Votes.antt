@@ -14,7 +14,8 @@ use Rattle.tally.specs.declared.Engine.the-variants.{B, R}
 use Rattle.tally.specs.declared.Estimate.{Estimate}
 use Rattle.tally.specs.declared.Estimate.the-variants.{Blank, Split, Mileage}
 use Rattle.tally.specs.declared.Tally.{Tally}
-use Rattle.tally.proofs.Count.{Each}
+use Rattle.tally.proofs.Count.{Each, each-map}
+use Rattle.tally.proofs.Gathered.{found}
 use Rattle.tally.proofs.Never.{never}
 use Rattle.contents.specs.Estimates.{inRange, isBlank, mileageOrBlank}
 use Rattle.contents.proofs.Facts.{known-or-split}
@@ -60,16 +61,13 @@ module _ (l : Limits) (split : Bool) where
   -- what is found by a test that split fails is a mileage, or blank
   found-blank : (P : Estimate → Bool) → P Split ≡ false → (es : List Estimate) → Each (Vote l split) es
       → mileageOrBlank l (firstPassing P es) ≡ true
-  unfolding firstPassing mileageOrBlank
-  found-blank P fails [] f = refl
-  found-blank P fails (e ∷ es) f = go (P e) e refl (f .0) (found-blank P fails es (f .1))
+  unfolding mileageOrBlank
+  found-blank P fails es f = found P (λ e. mileageOrBlank l e ≡ true) refl es (each-map go es f)
     where
-      go : (b : Bool) (e : Estimate) → P e ≡ b → Vote l split e → mileageOrBlank l (firstPassing P es) ≡ true
-          → mileageOrBlank l (cond b e (firstPassing P es)) ≡ true
-      go true Blank q v ih = refl
-      go true Split q v ih = never (sym fails ∙ q)
-      go true (Mileage w) q v ih = in-range w v
-      go false e q v ih = ih
+      go : (e : Estimate) → Vote l split e → P e ≡ true → mileageOrBlank l e ≡ true
+      go Blank v q = refl
+      go Split v q = never (sym fails ∙ q)
+      go (Mileage w) v q = in-range w v
 
   pub next-proposal : (g : Engine) (n : ℕ) (t : Tally) (own : Estimate) → Each (Vote l split) (gathered t) → mileageOrBlank l own ≡ true
       → mileageOrBlank l (nextProposal g n t own) ≡ true

@@ -1,16 +1,18 @@
--- Engines, estimates and settings that test the same are the same. Assumes nothing.
-use Prim.Native.Nat.{ℕ}
+-- Engines, estimates and settings that test the same are the same, and what a fit says. Assumes nothing.
+use Prim.Native.Nat.{ℕ, _<_}
 use mathlib.Core.Path.{_≡_, refl, sym, ap}
-use mathlib.Core.Bool.{true, _&&_}
-use lib.Dec.{eqb}
-use borrow.Author.Tests.{eqb-true, eq-eqb}
+use mathlib.Core.Bool.{Bool, true, false, _&&_, _||_}
+use mathlib.Core.Logic.{_⊎_, inl, inr}
+use lib.Dec.{eqb, ltb}
+use borrow.Author.Tests.{eqb-true, eq-eqb, ltb-true}
 use Rattle.tally.specs.declared.Engine.{Engine}
 use Rattle.tally.specs.declared.Engine.the-variants.{B, R}
 use Rattle.tally.specs.declared.Estimate.{Estimate}
 use Rattle.tally.specs.declared.Estimate.the-variants.{Blank, Split, Mileage}
-use Rattle.contents.specs.Estimates.{sameEngine, sameEstimate}
-use Rattle.contents.specs.Images.{sameSettings}
+use Rattle.contents.specs.Estimates.{isBlank, sameEngine, sameEstimate}
+use Rattle.contents.specs.Images.{sameSettings, stateFits}
 use Rattle.contents.specs.declared.Settings.{Settings}
+use Rattle.contents.specs.declared.State.{State}
 use Rattle.tally.proofs.Never.{never}
 use Rattle.contents.proofs.Tests.{both-true}
 
@@ -62,3 +64,19 @@ same-settings a b h =
 pub settings-same : (a : Settings) → sameSettings a a ≡ true
 unfolding sameSettings
 settings-same a = rw (engine-same (a .engine), eq-eqb (a .n) (a .n) refl, eq-eqb (a .unit) (a .unit) refl, eq-eqb (a .entry) (a .entry) refl)
+
+-- an image's state that fits a log's: the round is higher, or the same with both estimates
+abbrev pub Fits : State → State → Type 0
+Fits i s = (s .round < i .round) ⊎ ((s .round ≡ i .round) × ((s .first ≡ i .first) × (s .second ≡ i .second)))
+
+pub state-fits : (i s : State) → stateFits i s ≡ true → Fits i s
+unfolding stateFits
+state-fits i s h = go (eqb (i .round) (s .round) && sameEstimate (i .first) (s .first) && sameEstimate (i .second) (s .second)) refl h
+  where
+    go : (b : Bool) → (eqb (i .round) (s .round) && sameEstimate (i .first) (s .first) && sameEstimate (i .second) (s .second)) ≡ b
+        → (b || (ltb (s .round) (i .round) && isBlank (i .first) && isBlank (i .second))) ≡ true → Fits i s
+    go false e h = inl (ltb-true _ _ (both-true (ltb (s .round) (i .round)) _ (both-true _ _ h .0) .0))
+    go true e h =
+        let p = both-true _ _ e in
+        let q = both-true (eqb (i .round) (s .round)) _ (p .0) in
+        inr (sym (eqb-true (i .round) (s .round) (q .0)), (sym (same-estimate _ _ (q .1)), sym (same-estimate _ _ (p .1))))

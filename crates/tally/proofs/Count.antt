@@ -41,6 +41,10 @@ module _ {A : Type 0} where
   Each F [] = Unit
   Each F (x ∷ xs) = F x × Each F xs
 
+  pub each-map : {F G : A → Type 0} → ((x : A) → F x → G x) → (xs : List A) → Each F xs → Each G xs
+  each-map f [] h = tt
+  each-map f (x ∷ xs) h = (f x (h .0), each-map f xs (h .1))
+
   pub each : (F : A → Type 0) → ((x : A) → F x) → (xs : List A) → Each F xs
   each F f [] = tt
   each F f (x ∷ xs) = (f x, each F f xs)

@@ -13,7 +13,7 @@ use Rattle.tally.specs.Quorum.{quorumOf, majorityOf}
 use Rattle.tally.specs.declared.Engine.the-variants.{R}
 use Rattle.tally.specs.declared.Estimate.{Estimate}
 use Rattle.tally.specs.declared.Estimate.the-variants.{Blank, Split, Mileage}
-use Rattle.tally.proofs.Count.{passing-le, passing-all, passing-split, passing-mono, each}
+use Rattle.tally.proofs.Count.{passing-le, passing-all, passing-split, passing-mono, Each, each}
 use Rattle.tally.proofs.Never.{never}
 use Rattle.tally.proofs.Quorums.{majority-blocks}
 
@@ -87,16 +87,21 @@ holders-apart v w n (e ∷ es) = go (holds v e) (holds w e) (apart e) (holders-a
     go false true f h = omega arith
     go false false f h = omega arith
 
+-- what is found is blank, or one of those that pass
+pub found : (P : Estimate → Bool) (Q : Estimate → Type 0) → Q Blank → (es : List Estimate) → Each (λ e. P e ≡ true → Q e) es → Q (firstPassing P es)
+unfolding firstPassing
+found P Q blank [] f = blank
+found P Q blank (e ∷ es) f = go (P e) refl (found P Q blank es (f .1))
+  where
+    go : (b : Bool) → P e ≡ b → Q (firstPassing P es) → Q (cond b e (firstPassing P es))
+    go true p ih = f .0 p
+    go false p ih = ih
+
 -- what is found passes
 pub first-passes : (P : Estimate → Bool) (es : List Estimate) (v : ℕ) → firstPassing P es ≡ Mileage v → P (Mileage v) ≡ true
-unfolding firstPassing
-first-passes P [] v h = never cc
-first-passes P (e ∷ es) v h = go (first-passes P es v) (P e) refl h
-  where
-    go : (firstPassing P es ≡ Mileage v → P (Mileage v) ≡ true) → (b : Bool) → P e ≡ b → cond b e (firstPassing P es) ≡ Mileage v → P
-        (Mileage v) ≡ true
-    go ih true p h = rw h at p
-    go ih false p h = ih h
+first-passes P es v =
+    found P (λ e. e ≡ Mileage v → P (Mileage v) ≡ true) (λ h. never cc) es
+    (each (λ e. P e ≡ true → e ≡ Mileage v → P (Mileage v) ≡ true) (λ e p h. rw h at p) es)
 
 -- the majority mileage is one that a majority holds
 pub majority-held : (need : ℕ) (es : List Estimate) (v : ℕ) → majority need es ≡ Mileage v → need ≤ holders v es

@@ -101,17 +101,24 @@ holders-senders v t =
     go true e = refl
     go false e = refl
 
--- a sender that is marked holds its estimate, and the others keep theirs
+-- a sender that is marked has its estimate in its place, and the others keep theirs
+pub placed-same : (t : Tally) (s : ℕ) (e : Estimate) → s < length (t .cells) → placed (mark t s e) s ≡ e
+unfolding mark
+placed-same t s e h = ap (λ (c : Cell). c .estimate) (getD-set-same (t .cells) s (record { estimate = e }) blankCell h)
+
+pub placed-other : (t : Tally) (s u : ℕ) (e : Estimate) → (u ≡ s → ⊥) → placed (mark t s e) u ≡ placed t u
+unfolding mark
+placed-other t s u e n = ap (λ (c : Cell). c .estimate) (getD-set-other (t .cells) s u (record { estimate = e }) blankCell n)
+
+-- and so it holds it
 pub held-same : (t : Tally) (s : ℕ) (e : Estimate) → s < length (t .cells) → held (mark t s e) s ≡ e
 unfolding held mark
-held-same t s e h =
-    rw (mark-same (t .marks) s) (ap (λ (c : Cell). c .estimate) (getD-set-same (t .cells) s (record { estimate = e }) blankCell h))
+held-same t s e h = rw (mark-same (t .marks) s) (placed-same t s e h)
 
 pub held-other : (t : Tally) (s u : ℕ) (e : Estimate) → (u ≡ s → ⊥) → held (mark t s e) u ≡ held t u
 unfolding held mark
 held-other t s u e n =
-    rw (mark-other (t .marks) s u n)
-    (ap (λ (c : Cell). cond (isMarked (t .marks) u) (c .estimate) Blank) (getD-set-other (t .cells) s u (record { estimate = e }) blankCell n))
+    rw (mark-other (t .marks) s u n) (ap (λ (x : Estimate). cond (isMarked (t .marks) u) x Blank) (placed-other t s u e n))
 
 -- ---- tallies in which only units below n are marked
 
