@@ -125,6 +125,9 @@ pub record Later (w w′ : ContentsWorld) : Type 0 where
 pub now : (w : ContentsWorld) → Later w w
 now w = record { sent = λ m h. h; proposed = λ v h. h }
 
+pub and-later : {a b c : ContentsWorld} → Later a b → Later b c → Later a c
+and-later p q = record { sent = λ m h. q .sent m (p .sent m h); proposed = λ v h. q .proposed v (p .proposed v h) }
+
 -- an event leads from w to w′: the invariant holds there, and what is decided there was proposed before
 record Next (l : Limits) (c : Setup) (w w′ : ContentsWorld) : Type 0 where
   inv : Inv l c w′
@@ -309,8 +312,7 @@ module _ (l : Limits) (c : Setup) where
   run-later w [] inv = now w
   run-later w (e ∷ es) inv =
       let n = step-next l c w inv e in
-      let r = run-later (step l (c .n) w e) es (n .inv) in
-      record { sent = λ m h. r .sent m (n .later .sent m h); proposed = λ v h. r .proposed v (n .later .proposed v h) }
+      and-later (n .later) (run-later (step l (c .n) w e) es (n .inv))
 
   pub step-later : (w : ContentsWorld) (e : Event) → Inv l c w → Later w (step l (c .n) w e)
   step-later w e inv = step-next l c w inv e .later

@@ -1,7 +1,7 @@
 -- Two histories computed: the scope paper's listing, with its cut and its key-on, to its five messages and its decision; one of R. Assumes nothing.
 use Prim.Native.Nat.{ℕ}
 use mathlib.Core.Path.{_≡_, refl}
-use mathlib.Core.List.{List, [], _∷_, _++_, map}
+use mathlib.Core.List.{List, [], _∷_, map}
 use lib.Count.{ones}
 use lib.ListN.{replicate, getElem?}
 use mathlib.Core.Option.{some}
@@ -25,15 +25,12 @@ use Rattle.consensus.specs.Step.{checksWith, onCheck, nextProposal, close, coun
 use Rattle.consensus.specs.Methods.{forOther, outOfRange, closesLast, unless, proposeRows, propose, deliverRows, deliver, keyOn}
 use Rattle.mileage.specs.Calls.{unitLengths, badLog, badSettings, badImage, badMessage, logBytes, messageBytes, startCallRows, startCall, keyOnCallRows}
 use Rattle.mileage.specs.Calls.{keyOnCall, proposeCallRows, proposeCall, deliverCallRows, deliverCall}
+use Rattle.mileage.proofs.Examples.{mileage, blank, log, unmarked, message, junk, F, C, S, K, B as letterB, R as letterR}
 use Rattle.agreement.specs.Bytes.{startOf, ByteWorld, up, Event, proposal, delivery, cut, off, on, begun, after, afterProposal, afterCut, afterKeyOn}
-use Rattle.agreement.specs.Bytes.{proposalOf}
-use Rattle.agreement.specs.Bytes.{delivering, keyOnOf, step}
+use Rattle.agreement.specs.Bytes.{proposalOf, delivering, keyOnOf, step}
 use Rattle.agreement.specs.Worlds.{Setup, run}
 
 -- buffers that held other bytes before
-abbrev junk : ℕ → List ℕ
-junk k = replicate k 170
-
 abbrev out : List ℕ
 out = junk (messageSize today)
 
@@ -59,15 +56,6 @@ of3 = record { engine = B; n = 3; entry = 7 }
 abbrev of4 : Setup
 of4 = record { engine = R; n = 4; entry = 7 }
 
--- blank, as it is stored
-abbrev blank : List ℕ
-blank = replicate 4 255
-
--- kind's letter, engine's letter, n, sender, receiver, round, estimate, proposal
-abbrev message : ℕ → ℕ → ℕ → ℕ → ℕ → ℕ → List ℕ → List ℕ → List ℕ
-message kind engine n sender receiver round estimate own =
-    kind ∷ engine ∷ n ∷ sender ∷ receiver ∷ 0 ∷ 0 ∷ 7 ∷ 0 ∷ round ∷ (estimate ++ own)
-
 -- ---- the listing
 
 abbrev listing : List Event
@@ -87,28 +75,25 @@ listing =
     ∷ delivery 2 4 out
     ∷ []
 
-abbrev mileage : List ℕ
-mileage = 0 ∷ 6 ∷ 73 ∷ 173 ∷ []
+abbrev m : List ℕ
+m = mileage 412077
 
 -- the log of unit 0, with the second estimate that the cut delivery wrote
-abbrev log : List ℕ
-log = 66 ∷ 3 ∷ 0 ∷ 0 ∷ 0 ∷ 7 ∷ 0 ∷ 0 ∷ (mileage ++ (mileage ++ mileage))
-
-abbrev unmarked : List ℕ
-unmarked = 0 ∷ 0 ∷ replicate 64 255
+abbrev log-0 : List ℕ
+log-0 = log letterB 3 0 0 m m m
 
 -- five messages, F, C, C, S, S, of which the cut sent none; a decision by unit 2 in round 0; unit 0 up again, with its log's image
 pub record Listed (w : ByteWorld) : Type 0 where
   pub sent : w .sent
-      ≡ message 70 66 3 0 255 0 mileage mileage
-      ∷ message 67 66 3 0 255 0 mileage mileage
-      ∷ message 67 66 3 1 255 0 mileage mileage
-      ∷ message 83 66 3 1 255 0 mileage blank
-      ∷ message 83 66 3 2 255 0 mileage blank
+      ≡ message F letterB 3 0 255 0 m m
+      ∷ message C letterB 3 0 255 0 m m
+      ∷ message C letterB 3 1 255 0 m m
+      ∷ message S letterB 3 1 255 0 m blank
+      ∷ message S letterB 3 2 255 0 m blank
       ∷ []
   pub proposed : w .proposed ≡ record { unit = 0; mileage = 412077 } ∷ []
   pub decided : w .decided ≡ record { unit = 2; round = 0; mileage = 412077 } ∷ []
-  pub unit-0 : w .units 0 ≡ up log (log ++ (unmarked ++ unmarked))
+  pub unit-0 : w .units 0 ≡ up log-0 (unmarked log-0)
 
 -- ---- R: SECONDs 5, 5, 9 make 5 the majority of round 0; round 1, which units 0 to 2 catch up with, decides it; an old SECOND is answered by SKIP
 
@@ -134,15 +119,12 @@ of-r =
     ∷ delivery 3 8 out
     ∷ []
 
-abbrev five : List ℕ
-five = 0 ∷ 0 ∷ 0 ∷ 5 ∷ []
-
 pub record Majority (w : ByteWorld) : Type 0 where
   pub proposed : w .proposed ≡ record { unit = 0; mileage = 5 } ∷ record { unit = 1; mileage = 9 } ∷ record { unit = 3; mileage = 7 } ∷ []
   pub decided : w .decided ≡ record { unit = 3; round = 1; mileage = 5 } ∷ []
   -- FIRST of round 1 with the majority, and the SKIP to unit 2
-  pub first : getElem? (w .sent) 5 ≡ some (message 70 82 4 3 255 1 five five)
-  pub skip : getElem? (w .sent) 9 ≡ some (message 75 82 4 3 2 1 blank five)
+  pub first : getElem? (w .sent) 5 ≡ some (message F letterR 4 3 255 1 (mileage 5) (mileage 5))
+  pub skip : getElem? (w .sent) 9 ≡ some (message K letterR 4 3 2 1 blank (mileage 5))
 
 -- ---- both
 

@@ -29,7 +29,8 @@ use Rattle.agreement.specs.Demand3.{view, Demand3}
 use Rattle.agreement.specs.Worlds.{Setup, settingsOf, Decision, run, Given, Locked, Seconded, Reported, Agreed}
 use Rattle.agreement.proofs.Encoding.{unitBytesAt, unitBytes, sentBytes, Encodes, Valid, Follows}
 use Rattle.agreement.proofs.Follows.{step-follows}
-use Rattle.agreement.proofs.History.{Inv, Later, now, step-later, step-inv, begun-inv, well-formed-unit, from-unit, decided-given, step-proposed}
+use Rattle.agreement.proofs.History.{Inv, Later, now, and-later, step-later, step-inv, begun-inv, well-formed-unit, from-unit, decided-given}
+use Rattle.agreement.proofs.History.{step-proposed}
 use Rattle.agreement.proofs.History.{run-append, run-snoc, locked-later, seconds-sent}
 use Rattle.agreement.proofs.Invariant.{agreement}
 use Rattle.agreement.proofs.Refused.{has-log}
@@ -71,11 +72,7 @@ module _ (l : Limits) (sane : Sane l) (c : Setup) where
   run-reached b (e ∷ es) i h =
       let a = step-reached b e i (h .0) in
       let r = run-reached (step l (c .n) b e) es (a .end) (h .1) in
-      record {
-        end = r .end;
-        later =
-            record { sent = λ m x. r .later .sent m (a .later .sent m x); proposed = λ v x. r .later .proposed v (a .later .proposed v x) };
-      }
+      record { end = r .end; later = and-later (a .later) (r .later) }
 
   pub bytes-step : (b : ByteWorld) (e : Event) → BytesInv l c b → LawfulEvent l b e → BytesInv l c (step l (c .n) b e)
   bytes-step b e i h = step-reached b e i h .end

@@ -189,7 +189,8 @@ proper-none n low =
 pub lowest-not-split : (es : List Estimate) → lowest es ≡ Split → ⊥
 unfolding lowest
 lowest-not-split es =
-    found anyMileage (λ e. e ≡ Split → ⊥) (λ h. never cc) es (each (λ e. anyMileage e ≡ true → e ≡ Split → ⊥) (λ e p h. never (rw h at p)) es)
+    found anyMileage (λ e. e ≡ Split → ⊥) (λ h. never cc) es
+    (each (λ e. anyMileage e ≡ true → e ≡ Split → ⊥) (λ e p h. never (rw h at p)) es)
 
 -- the tallies of a well-formed unit are proper
 proper-tally : (l : Limits) (split : Bool) (g : Engine) (n : ℕ) (t : Tally) → n ≤ maxUnits → Typed t → TallyFacts l split g n t → Proper n t

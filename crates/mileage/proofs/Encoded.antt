@@ -36,7 +36,7 @@ use Rattle.consensus.specs.declared.Answer.{Answer}
 use Rattle.consensus.specs.declared.Power.the-variants.{Up}
 use Rattle.consensus.specs.declared.Unit as U
 use Rattle.mileage.proofs.Rows.{start-refusing}
-use Rattle.mileage.specs.Calls.{Called, called, unlessRow, unitLengths, badLog, badImage, badMessage, badSettings, logBytes, messageBytes}
+use Rattle.mileage.specs.Calls.{Called, called, settingsFor, unlessRow, unitLengths, badLog, badImage, badMessage, badSettings, logBytes, messageBytes}
 use Rattle.mileage.specs.Calls.{startCallRows, startCall, keyOnCallRows, keyOnCall, proposeCallRows, proposeCall, deliverCallRows, deliverCall}
 
 -- an answer as bytes, where the buffers' lengths are right
@@ -45,17 +45,18 @@ answered l a =
     called (numberOf (a .refusal)) (logBytes l (unitLog (a .unit))) (imageBytes l (unitImage (a .unit))) (messageBytes l (a .message .kind) (a .message))
     (codeOf (a .decision))
 
+-- the same of an answer that is accepted
+abbrev accepted : Limits → Answer → Called
+accepted l a = called 0 (answered l a .log) (answered l a .image) (answered l a .out) (answered l a .decision)
+
 -- a start that is accepted
 pub record Started (l : Limits) (engine n unit entry : ℕ) (c : Called) : Type 0 where
   pub known : Engine
   pub letter : engineOf engine ≡ Is known
-  pub range : settingsOk (record { engine = known; n = n; unit = unit; entry = entry }) ≡ true
-  pub answer : c ≡ called 0 (logBytes l (unitLog (fresh (record { engine = known; n = n; unit = unit; entry = entry }))))
-      (imageBytes l (unitImage (fresh (record { engine = known; n = n; unit = unit; entry = entry })))) [] blankCode
-
--- the same of an answer that is accepted
-abbrev accepted : Limits → Answer → Called
-accepted l a = called 0 (answered l a .log) (answered l a .image) (answered l a .out) (answered l a .decision)
+  pub range : settingsOk (settingsFor (Is known) n unit entry) ≡ true
+  pub answer : c
+      ≡ called 0 (logBytes l (unitLog (fresh (settingsFor (Is known) n unit entry))))
+      (imageBytes l (unitImage (fresh (settingsFor (Is known) n unit entry)))) [] blankCode
 
 length-bytes : {A : Type 0} (f : Format A) (Typed : A → Type 0) (law : Lawful f Typed) (a : A) → Typed a → f .ok a ≡ true
     → length (toBytes f a) ≡ f .size

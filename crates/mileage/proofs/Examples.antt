@@ -43,34 +43,34 @@ pub record Case : Type 0 where
 
 -- ---- bytes
 
-abbrev B : ℕ
+abbrev pub B : ℕ
 B = 66
 
-abbrev R : ℕ
+abbrev pub R : ℕ
 R = 82
 
-abbrev F : ℕ
+abbrev pub F : ℕ
 F = 70
 
-abbrev C : ℕ
+abbrev pub C : ℕ
 C = 67
 
-abbrev S : ℕ
+abbrev pub S : ℕ
 S = 83
 
-abbrev K : ℕ
+abbrev pub K : ℕ
 K = 75
 
 abbrev Z : ℕ
 Z = 90
 
-abbrev two : ℕ → List ℕ
+abbrev pub two : ℕ → List ℕ
 two x = x / 256 ∷ x % 256 ∷ []
 
-abbrev mileage : ℕ → List ℕ
+abbrev pub mileage : ℕ → List ℕ
 mileage v = two (v / 65536) ++ two (v % 65536)
 
-abbrev blank : List ℕ
+abbrev pub blank : List ℕ
 blank = 255 ∷ 255 ∷ 255 ∷ 255 ∷ []
 
 abbrev split : List ℕ
@@ -81,28 +81,28 @@ abbrev none : ℕ
 none = 4294967295
 
 -- engine, n, unit, round, proposal, first estimate, second estimate; the entry is 7
-abbrev log : ℕ → ℕ → ℕ → ℕ → List ℕ → List ℕ → List ℕ → List ℕ
+abbrev pub log : ℕ → ℕ → ℕ → ℕ → List ℕ → List ℕ → List ℕ → List ℕ
 log engine n unit round p f s = engine ∷ n ∷ unit ∷ 0 ∷ 0 ∷ 7 ∷ (two round ++ (p ++ (f ++ s)))
 
 -- marks, and the estimates of the lowest senders
-abbrev tally : ℕ → List ℕ → List ℕ
+abbrev pub tally : ℕ → List ℕ → List ℕ
 tally marks es = two marks ++ take 64 (es ++ replicate 64 255)
 
-abbrev image : List ℕ → List ℕ → List ℕ → List ℕ
+abbrev pub image : List ℕ → List ℕ → List ℕ → List ℕ
 image current checks seconds = current ++ (checks ++ seconds)
 
-abbrev unmarked : List ℕ → List ℕ
+abbrev pub unmarked : List ℕ → List ℕ
 unmarked current = image current (tally 0 []) (tally 0 [])
 
 -- kind, engine, n, sender, receiver, round, estimate, proposal
-abbrev message : ℕ → ℕ → ℕ → ℕ → ℕ → ℕ → List ℕ → List ℕ → List ℕ
+abbrev pub message : ℕ → ℕ → ℕ → ℕ → ℕ → ℕ → List ℕ → List ℕ → List ℕ
 message kind engine n sender receiver round e p = kind ∷ engine ∷ n ∷ sender ∷ receiver ∷ 0 ∷ 0 ∷ 7 ∷ (two round ++ (e ++ p))
 
 abbrev zeros : List ℕ
 zeros = replicate 18 0
 
 -- buffers that held other bytes before
-abbrev junk : ℕ → List ℕ
+abbrev pub junk : ℕ → List ℕ
 junk k = replicate k 170
 
 -- ---- cases

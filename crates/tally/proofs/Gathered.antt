@@ -88,7 +88,8 @@ holders-apart v w n (e ∷ es) = go (holds v e) (holds w e) (apart e) (holders-a
     go false false f h = omega arith
 
 -- what is found is blank, or one of those that pass
-pub found : (P : Estimate → Bool) (Q : Estimate → Type 0) → Q Blank → (es : List Estimate) → Each (λ e. P e ≡ true → Q e) es → Q (firstPassing P es)
+pub found : (P : Estimate → Bool) (Q : Estimate → Type 0) → Q Blank → (es : List Estimate) → Each (λ e. P e ≡ true → Q e) es
+    → Q (firstPassing P es)
 unfolding firstPassing
 found P Q blank [] f = blank
 found P Q blank (e ∷ es) f = go (P e) refl (found P Q blank es (f .1))

@@ -1,0 +1,83 @@
+-- A step that writes no log leaves the old one whole, and one that changes no image its image: to the last byte. Assumes nothing.
+use Prim.Native.Nat.{ℕ, _<_}
+use mathlib.Core.Path.{_≡_, refl, sym, ap, _∙_}
+use mathlib.Core.Bool.{Bool, true, false, cond}
+use mathlib.Core.List.{List}
+use lib.Dec.{eqb}
+use borrow.Author.Tests.{eqb-true, eqb-false, not-false}
+use Rattle.tally.specs.Limits.{Limits, Sane, blankCode}
+use Rattle.tally.specs.Refusal.{numberOf}
+use Rattle.contents.specs.Images.{fits}
+use Rattle.contents.specs.declared.Settings.{Settings}
+use Rattle.contents.proofs.Same.{same-settings}
+use Rattle.contents.proofs.Tests.{both-true}
+use Rattle.codec.specs.Formats.{Reading, reading}
+use Rattle.codec.specs.Images.{imageFormat, readImage, imageBytes}
+use Rattle.codec.specs.Logs.{logFormat, readLog}
+use Rattle.codec.specs.Messages.{readMessage, cleared}
+use Rattle.codec.specs.Numbers.{Bytes}
+use Rattle.codec.proofs.ImageFormat as images
+use Rattle.codec.proofs.LogFormat as logs
+use Rattle.codec.proofs.RoundTrips.{written-read}
+use Rattle.consensus.specs.Rows.{Row, firstOf, NoneHolds}
+use Rattle.consensus.specs.Step.{received}
+use Rattle.consensus.specs.Units.{unitLog, unitImage}
+use Rattle.consensus.specs.declared.Answer.{Answer}
+use Rattle.consensus.proofs.Laws.{received-below}
+use Rattle.mileage.specs.Calls.{Called, called, unlessRow, badLog, badImage, logBytes, unitOf, deliverCallRows, deliverCall}
+use Rattle.mileage.proofs.Rows.{deliver-refusing}
+
+-- a call whose number is 0 gives its answer
+answers : (l : Limits) (rows : List Row) (log image out : List ℕ) (ok : Called) → unlessRow l rows log image out ok .number ≡ 0
+    → unlessRow l rows log image out ok ≡ ok
+answers l rows log image out ok = go (eqb (numberOf (firstOf rows)) 0) refl
+  where
+    refused : Called
+    refused = called (numberOf (firstOf rows)) log image (cleared l out) blankCode
+
+    go : (b : Bool) → eqb (numberOf (firstOf rows)) 0 ≡ b → cond b ok refused .number ≡ 0 → cond b ok refused ≡ ok
+    go true e h = refl
+    go false e h = absurd (eqb-false (numberOf (firstOf rows)) 0 e h)
+
+-- contents that were read with the number 0
+was-read : {A : Type 0} (r : Reading A) → eqb (r .number) 0 ≡ true → r ≡ reading 0 (r .contents)
+was-read r e = rw (← eqb-true (r .number) 0 e)
+
+module _ (l : Limits) (sane : Sane l) (log image message out : List ℕ) (number : deliverCall l log image message out .number ≡ 0) where
+  rows : NoneHolds (deliverCallRows l log image message out)
+  rows = deliver-refusing l log image message out .number .accepted number
+
+  pub log-stays : Bytes log → unitLog (received (unitOf l log image) (readMessage l message .contents) .unit) ≡ unitLog (unitOf l log image)
+      → deliverCall l log image message out .log ≡ log
+  unfolding deliverCall deliverCallRows badLog logBytes readLog
+  log-stays bytes same =
+      ap (λ (c : Called). c .log) (answers l _ log image out _ number)
+      ∙ ap (logBytes l) same
+      ∙ written-read (logFormat l) (λ r. Unit) (logs.lawful l sane) log _ bytes (was-read (readLog l log) (not-false _ (rows .1 .0))) .1
+
+  -- the image that was read has the log's settings
+  read-image : (eqb (readImage l image .number) 0 ≡ true) × (unitImage (unitOf l log image) ≡ readImage l image .contents)
+  unfolding deliverCallRows badImage fits
+  read-image =
+      let i = readImage l image .contents in
+      let a = both-true (eqb (readImage l image .number) 0) _ (not-false _ (rows .1 .1 .0)) in
+      let same = same-settings (i .settings) (readLog l log .contents .settings) (both-true _ _ (a .1) .0) in (
+        a .0,
+        ap (λ (x : Settings). record { settings = x; state = i .state; checks = i .checks; seconds = i .seconds }) (sym same),
+      )
+
+  pub image-stays : Bytes image → unitImage (received (unitOf l log image) (readMessage l message .contents) .unit) ≡ unitImage (unitOf l log image)
+      → deliverCall l log image message out .image ≡ image
+  unfolding deliverCall imageBytes readImage
+  image-stays bytes same =
+      ap (λ (c : Called). c .image) (answers l _ log image out _ number)
+      ∙ ap (imageBytes l) (same ∙ read-image .1)
+      ∙ written-read (imageFormat l) _ (images.lawful l sane) image _ bytes (was-read (readImage l image) (read-image .0)) .1
+
+  -- a message below the unit's round changes neither
+  pub below-stays : Bytes log → Bytes image → readMessage l message .contents .round < unitOf l log image .current .round
+      → (deliverCall l log image message out .log ≡ log) × (deliverCall l log image message out .image ≡ image)
+  below-stays a b h =
+      let u = unitOf l log image in
+      let same = received-below (u .power) (u .settings) (u .logged) (u .current) (u .checks) (u .seconds) (readMessage l message .contents) h in
+      (log-stays a (ap (λ (x : Answer). unitLog (x .unit)) same), image-stays b (ap (λ (x : Answer). unitImage (x .unit)) same))
