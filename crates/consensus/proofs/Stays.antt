@@ -1,15 +1,17 @@
 -- In a delivery an estimate that is not blank stays while the round does, and the round never falls. Assumes nothing.
 use Prim.Native.Nat.{_≤_, _<_}
 use mathlib.Core.Path.{_≡_, refl, sym, _∙_}
-use mathlib.Core.Bool.{true, false}
+use mathlib.Core.Bool.{Bool, true, false, cond}
 use native.Mathlib.Omega.{arith}
+use lib.Dec.{ltb}
+use borrow.Author.Tests.{ltb-false}
 use Rattle.tally.specs.declared.Estimate.{Estimate}
 use Rattle.tally.proofs.Never.{never}
 use Rattle.contents.specs.Estimates.{isBlank}
 use Rattle.contents.specs.declared.Kind.{Kind}
 use Rattle.contents.specs.declared.Message.{Message}
 use Rattle.contents.specs.declared.State.{State}
-use Rattle.consensus.specs.Step.{logWrite, atRound, takeFirst, takeSecond, close, onKind, skip, received}
+use Rattle.consensus.specs.Step.{logWrite, atRound, takeFirst, takeSecond, close, onKind, skip, caughtUp, received}
 use Rattle.consensus.specs.declared.Answer.{Answer}
 use Rattle.consensus.specs.declared.Unit as U
 use Rattle.consensus.proofs.Branches.{by-kind, by-check, by-second, by-round}
@@ -54,3 +56,12 @@ unfolding skip atRound
 stays u m =
     by-round (StaysTo u) u m (λ _. stays-same (u .current)) (λ _. stays-kind (m .kind) u m)
     (λ h. stays-risen _ _ (omega (arith, stays-kind (m .kind) (atRound u (m .round) (m .proposal)) m .round)))
+
+-- a unit that is not above a message is in its round once it has caught up
+pub caught-up-round : (u : U.Unit) (m : Message) → u .current .round ≤ m .round → caughtUp u m .current .round ≡ m .round
+unfolding caughtUp atRound
+caught-up-round u m h = go (ltb (u .current .round) (m .round)) refl
+  where
+    go : (b : Bool) → ltb (u .current .round) (m .round) ≡ b → cond b (atRound u (m .round) (m .proposal)) u .current .round ≡ m .round
+    go true e = refl
+    go false e = omega (arith, ltb-false (u .current .round) (m .round) e)

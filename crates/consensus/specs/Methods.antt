@@ -86,6 +86,10 @@ deliverRows l u m =
 unfoldable pub deliver : Limits → U.Unit → Message → Answer
 deliver l u m = unless (deliverRows l u m) u (received u m)
 
+-- a delivery to an up unit of a well-formed message that is for it: 7 is the one row left
+unfoldable pub taken : Limits → U.Unit → Message → Answer
+taken l u m = unless (row Refusal.LastRound (closesLast l u m) ∷ []) u (received u m)
+
 -- key-off (the scope paper's term): the image is lost
 unfoldable pub keyOff : U.Unit → Answer
 keyOff u = unless (row Refusal.Power (not (isUp (u .power))) ∷ []) u (quiet (downUnit (unitLog u)))

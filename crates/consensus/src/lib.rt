@@ -1,10 +1,17 @@
-// The unit, and what a step answers. The step itself is in specs/Step.
+// The unit, and what a step answers. The step is in `step`, the methods in `methods`; both are equal to their definitions in specs/.
+pub mod methods;
+pub mod step;
+
+use contents::Image;
+use contents::Log;
 use contents::Message;
 use contents::Settings;
 use contents::State;
 use tally::Estimate;
 use tally::Refusal;
 use tally::Tally;
+ghost use mathlib.Core.Path.{_≡_};
+ghost use Rattle.consensus.specs.Units.{unitLog, unitImage, upUnit, atLog, downUnit};
 
 // A unit is down, or up with estimates.
 pub enum Power {
@@ -29,4 +36,71 @@ pub struct Answer {
     pub unit: Unit,
     pub message: Message,
     pub decision: Estimate,
+}
+
+impl Unit {
+    pub fn log(self) -> Log
+        ensures { λ r. ⌜ r ≡ unitLog self ⌝ }
+    {
+        let settings = self.settings;
+        let state = self.logged;
+        Log { settings, state }
+    }
+
+    pub fn image(self) -> Image
+        ensures { λ r. ⌜ r ≡ unitImage self ⌝ }
+    {
+        let settings = self.settings;
+        let state = self.current;
+        let checks = self.checks;
+        let seconds = self.seconds;
+        Image {
+            settings,
+            state,
+            checks,
+            seconds,
+        }
+    }
+
+    // The up unit of a log and an image that fits it.
+    pub fn up(log: Log, image: Image) -> Unit
+        ensures { λ r. ⌜ r ≡ upUnit log image ⌝ }
+    {
+        let settings = log.settings;
+        let logged = log.state;
+        let current = image.state;
+        let checks = image.checks;
+        let seconds = image.seconds;
+        Unit {
+            power: Power::Up,
+            settings,
+            logged,
+            current,
+            checks,
+            seconds,
+        }
+    }
+
+    // A unit at its log's contents, without marks.
+    pub(crate) fn at_log(power: Power, settings: Settings, logged: State) -> Unit
+        ensures { λ r. ⌜ r ≡ atLog power settings logged ⌝ }
+    {
+        Unit {
+            power,
+            settings,
+            logged,
+            current: logged,
+            checks: Tally::empty(),
+            seconds: Tally::empty(),
+        }
+    }
+
+    // The down unit of a log.
+    pub fn down(log: Log) -> Unit
+        ensures { λ r. ⌜ r ≡ downUnit log ⌝ }
+    {
+        let settings = log.settings;
+        let state = log.state;
+        Unit::at_log(Power::Down, settings, state)
+    }
 }
