@@ -1,5 +1,5 @@
--- Worked cases of the four calls, byte for byte: the scope paper's examples for the numbers 1 to 7 and its cases that calls can show, with some
--- more of each call. Assumes nothing.
+-- Worked cases in one table: those that the scope paper marks [p], its table's examples of the numbers 1 to 7, and some more of each call; what a
+-- call answers is computed to the last byte. Assumes nothing.
 use Prim.Native.Nat.{ℕ, _/_, _%_}
 use mathlib.Core.Path.{_≡_, refl, ap}
 use mathlib.Core.List.{List, [], _∷_, _++_, map}
@@ -8,7 +8,9 @@ use lib.ListN.{getD, take, drop, replicate}
 use Rattle.tally.proofs.Count.{Each}
 use Rattle.tally.specs.Gathered.{holders, allHold, common, firstPassing, lowest, leads, majority}
 use Rattle.tally.specs.Limits.{today}
+use Rattle.tally.specs.Quorum.{quorumOf, majorityOf}
 use Rattle.tally.specs.Tally.{noMarks, mark, gatheredFrom, gathered}
+use Rattle.tally.specs.declared.Engine.{Engine}
 use Rattle.contents.specs.Estimates.{mileageOrBlank, mileageOrSplit, secondFits, sameMileage}
 use Rattle.contents.specs.Logs.{stateOk, logOk}
 use Rattle.contents.specs.Images.{every, placeOk, placesOk, tallyOk, checksAllowed, imageOk, sameSettings, stateFits, fits}
@@ -37,9 +39,23 @@ answer (keyOn log image) = keyOnCall today log image
 answer (propose log image mileage out) = proposeCall today log image mileage out
 answer (deliver log image message out) = deliverCall today log image message out
 
+-- a row asks for the sizes at n, or makes a call
+pub data Question : Type 0 where
+  sizesAt : ℕ → Question
+  calling : Call → Question
+
+-- B's quorum, R's quorum and R's majority, or what the call answers
+pub data Shown : Type 0 where
+  sizes : (b r most : ℕ) → Shown
+  called : Called → Shown
+
+abbrev shown : Question → Shown
+shown (sizesAt n) = sizes (quorumOf Engine.B n) (quorumOf Engine.R n) (majorityOf n)
+shown (calling c) = called (answer c)
+
 pub record Case : Type 0 where
-  pub call : Call
-  pub expected : Called
+  pub question : Question
+  pub expected : Shown
 
 -- ---- bytes
 
@@ -109,7 +125,12 @@ junk k = replicate k 170
 
 -- number, log, image, output buffer, decision
 abbrev case : Call → ℕ → List ℕ → List ℕ → List ℕ → ℕ → Case
-case c k log image out d = record { call = c; expected = record { number = k; log = log; image = image; out = out; decision = d } }
+case c k log image out d =
+    record { question = calling c; expected = called (record { number = k; log = log; image = image; out = out; decision = d }) }
+
+-- n, B's quorum, R's quorum, R's majority
+abbrev quorums : ℕ → ℕ → ℕ → ℕ → Case
+quorums n b r most = record { question = sizesAt n; expected = sizes b r most }
 
 -- turned down with the number k: log and image keep their bytes, no decision; the output buffer is as given
 abbrev refused : ℕ → List ℕ → Call → Case
@@ -173,8 +194,25 @@ oneThere = image ending (tally 0 []) (tally 2 (blank ++ mileage 5))
 
 abbrev cases : List Case
 cases =
-    -- 1: message of 17 bytes; then every buffer of every call, too short or too long
-    refused 1 zeros (deliverTo freshB (take 17 first))
+    -- the cases that the scope paper marks [p]: its table of quorums
+    quorums 3 2 3 2
+    ∷ quorums 4 3 3 2
+    ∷ quorums 5 3 4 3
+    ∷ quorums 7 4 5 3
+    ∷ quorums 10 6 7 4
+    ∷ quorums 16 9 11 6
+    -- R, n = 4: SECONDs 5, 5, 9 give proposal 5; 5, 9, 2 give blank
+    ∷ gives (third 5 5 9) sixR (unitR 1 (mileage 5) blank) zeros none
+    ∷ gives (third 5 9 2) sixR (unitR 1 blank blank) zeros none
+    -- B, n = 3: CHECKs 5 and 9 give split; two splits keep the proposal
+    ∷ gives (deliver (sixB 0) (image (sixB 0) (tally 1 (mileage 5)) (tally 0 [])) (inB C 1 0 (mileage 9) (mileage 9)) (junk 18))
+    (unitB 0 (mileage 6) blank split) (unitB 0 (mileage 6) blank split) (inB S 0 0 split (mileage 6)) none
+    ∷ gives (deliver (sixB 0) (image (sixB 0) (tally 0 []) (tally 1 split)) (inB S 1 0 split blank) (junk 18)) (sixB 0) (sixB 1) zeros none
+    -- mileage 9,999,999 is accepted, with its FIRST, and 10,000,000 refused: 6
+    ∷ gives (proposeTo freshB 9999999) freshB (unitB 0 (mileage 9999999) blank blank) (inB F 0 0 (mileage 9999999) (mileage 9999999)) none
+    ∷ refused 6 zeros (proposeTo freshB 10000000)
+    -- the table's examples, 1: message of 17 bytes; then every buffer of every call, too short or too long
+    ∷ refused 1 zeros (deliverTo freshB (take 17 first))
     ∷ refused 1 zeros (deliverTo freshB (first ++ two 0))
     ∷ refused 1 zeros (deliver (take 19 freshB) (unmarked freshB) first (junk 18))
     ∷ refused 1 zeros (deliver freshB (take 151 (unmarked freshB)) first (junk 18))
@@ -203,9 +241,6 @@ cases =
     ∷ refused 4 zeros (deliverTo freshB zeros)
     -- 5: K for unit 1, handed to 2
     ∷ refused 5 zeros (deliverTo (log B 3 2 0 blank blank blank) (message K B 3 0 1 4 blank blank))
-    -- 6: 10,000,000 is refused, 9,999,999 accepted with its FIRST
-    ∷ refused 6 zeros (proposeTo freshB 10000000)
-    ∷ gives (proposeTo freshB 9999999) freshB (unitB 0 (mileage 9999999) blank blank) (inB F 0 0 (mileage 9999999) (mileage 9999999)) none
     -- 7: n = 3, B, round 9,999, one SECOND there, another comes; the SECOND of the marked sender again is accepted
     ∷ refused 7 zeros (deliver ending oneThere (inB S 2 9999 (mileage 5) blank) (junk 18))
     ∷ case (deliver ending oneThere (inB S 1 9999 (mileage 5) blank) (junk 18)) 0 ending oneThere zeros none
@@ -220,24 +255,18 @@ cases =
     -- a message below the unit's round, and a SKIP above it
     ∷ gives (deliverTo (sixB 4) first) (sixB 4) (sixB 4) (message K B 3 0 1 4 blank (mileage 6)) none
     ∷ gives (deliverTo freshB (message K B 3 1 0 4 blank (mileage 6))) freshB (sixB 4) zeros none
-    -- B, n = 3: one CHECK is marked; CHECKs 5 and 9 give split; two splits keep the proposal
+    -- B, n = 3: one CHECK is marked; R, n = 4: SECONDs 5, 5, 5 are decided
     ∷ case (deliverTo freshB (inB C 2 0 (mileage 9) (mileage 9))) 0 freshB
     (image freshB (tally 4 (blank ++ (blank ++ mileage 9))) (tally 0 [])) zeros none
-    ∷ gives (deliver (sixB 0) (image (sixB 0) (tally 1 (mileage 5)) (tally 0 [])) (inB C 1 0 (mileage 9) (mileage 9)) (junk 18))
-    (unitB 0 (mileage 6) blank split) (unitB 0 (mileage 6) blank split) (inB S 0 0 split (mileage 6)) none
-    ∷ gives (deliver (sixB 0) (image (sixB 0) (tally 0 []) (tally 1 split)) (inB S 1 0 split blank) (junk 18)) (sixB 0) (sixB 1) zeros none
-    -- R, n = 4: SECONDs 5, 5, 9 give proposal 5; 5, 9, 2 give blank; 5, 5, 5 are decided
-    ∷ gives (third 5 5 9) sixR (unitR 1 (mileage 5) blank) zeros none
-    ∷ gives (third 5 9 2) sixR (unitR 1 blank blank) zeros none
     ∷ gives (third 5 5 5) sixR (unitR 1 (mileage 5) blank) zeros 5
     ∷ []
 
 -- lists that are the same have the same elements
-each-same : (cs : List Case) → map (λ c. answer (c .call)) cs ≡ map (λ c. c .expected) cs → Each (λ c. answer (c .call) ≡ c .expected) cs
+each-same : (cs : List Case) → map (λ c. shown (c .question)) cs ≡ map (λ c. c .expected) cs → Each (λ c. shown (c .question) ≡ c .expected) cs
 each-same [] e = tt
-each-same (c ∷ cs) e = (ap (λ (l : List Called). getD l 0 (c .expected)) e, each-same cs (ap (drop 1) e))
+each-same (c ∷ cs) e = (ap (λ (l : List Shown). getD l 0 (c .expected)) e, each-same cs (ap (drop 1) e))
 
-pub all-hold : Each (λ c. answer (c .call) ≡ c .expected) cases
+pub all-hold : Each (λ c. shown (c .question) ≡ c .expected) cases
 unfolding ones holders allHold common firstPassing lowest leads majority noMarks mark gatheredFrom gathered
     mileageOrBlank mileageOrSplit secondFits sameMileage stateOk logOk every placeOk placesOk tallyOk checksAllowed imageOk sameSettings stateFits fits
     firstOk checkOk secondOk skipOk kindOk messageOk numAt bytesOf readLog readMessage cleared readImage imageBytes firstOf atLog downUnit says logWrite
