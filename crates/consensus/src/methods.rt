@@ -64,12 +64,11 @@ impl Unit {
         ensures { λ r. ⌜ r ≡ closesLast today self m ⌝ }
     {
         let kind = m.kind;
-        let seconds = self.seconds;
         if is_second(kind)
             & (m.round == limits::LAST_ROUND)
             & (self.current.round == limits::LAST_ROUND)
         {
-            !tally::is_marked(seconds.marks, m.sender) & self.is_full(self.seconds_with(m))
+            !tally::is_marked(self.seconds.marks, m.sender) & self.is_full(self.seconds_with(m))
         } else {
             false
         }

@@ -309,8 +309,7 @@ impl Unit {
     {
         let current = self.current;
         let second = current.second;
-        let checks = self.checks;
-        if estimates::is_blank(second) & !tally::is_marked(checks.marks, m.sender) {
+        if estimates::is_blank(second) & !tally::is_marked(self.checks.marks, m.sender) {
             self.count_check(self.checks_with(m))
         } else {
             self.quiet()
@@ -355,8 +354,7 @@ impl Unit {
         requires { ⌜ (m .sender < senders) × (self .current .round ≤ today .lastRound) ⌝ }
         ensures { λ r. ⌜ r ≡ onSecond self m ⌝ }
     {
-        let seconds = self.seconds;
-        if tally::is_marked(seconds.marks, m.sender) {
+        if tally::is_marked(self.seconds.marks, m.sender) {
             self.quiet()
         } else {
             self.count_second(self.seconds_with(m))
