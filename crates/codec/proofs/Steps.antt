@@ -3,6 +3,7 @@ use Prim.Native.Nat.{ℕ}
 use mathlib.Core.Path.{_≡_, refl, ap}
 use mathlib.Core.Bool.{Bool, true, false, cond}
 use mathlib.Core.List.{List}
+use native.Mathlib.Omega.{arith}
 use lib.Dec.{eqb}
 use lib.ListN.{length, getD}
 use borrow.Author.Tests.{eq-eqb, ne-eqb}
@@ -10,9 +11,12 @@ use Rattle.tally.specs.Refusal.{numberOf}
 use Rattle.tally.specs.declared.Engine.{Engine}
 use Rattle.tally.specs.declared.Refusal.the-variants.{Length}
 use Rattle.codec.specs.Codes.{engineOf, withEngine}
-use Rattle.codec.specs.Formats.{reading, wrote, Format, rowNumbers, zeroByte, checked, fromNumbers, readBytes, toBytes, writeBytes}
+use Rattle.codec.specs.Formats.{reading, wrote, Format, withZero, rowNumbers, zeroByte, checked, fromNumbers}
+use Rattle.codec.specs.Formats.{readBytes, toBytes, writeBytes, stored}
+use Rattle.codec.specs.Numbers.{total, packInto}
 use Rattle.codec.specs.declared.EngineRead.{EngineRead}
 use Rattle.codec.specs.declared.EngineRead.the-variants.{Unknown}
+use Rattle.codec.proofs.Rows.{packInto-eq}
 
 module _ {A : Type 0} (f : Format A) (bs : List ℕ) where
   pub read-length : (length bs ≡ f .size → ⊥) → readBytes f bs ≡ reading (numberOf Length) (f .nothing)
@@ -38,3 +42,16 @@ module _ {A : Type 0} (f : Format A) (bs : List ℕ) where
 
   pub write-contents : (a : A) (kept : List ℕ) → length bs ≡ f .size → f .ok a ≡ true → writeBytes f a kept bs ≡ wrote 0 (toBytes f a)
   write-contents a kept e ok = rw (eq-eqb (length bs) (f .size) e, ok)
+
+  -- the numbers of contents stored in a buffer of the right length are their bytes
+  pub packed : (a : A) → length (withZero (f .zeroAt) (f .numbers a)) ≡ length (f .widths) → total (f .widths) ≡ f .size → length bs ≡ f .size
+      → packInto bs 0 (f .widths) (withZero (f .zeroAt) (f .numbers a)) ≡ toBytes f a
+  packed a each sized e = packInto-eq (f .widths) (withZero (f .zeroAt) (f .numbers a)) bs 0 each (omega arith)
+
+  pub stored-other : (a : A) → (length bs ≡ f .size → ⊥) → stored f a bs ≡ bs
+  unfolding stored
+  stored-other a n = rw (ne-eqb (length bs) (f .size) n)
+
+  pub stored-contents : (a : A) → length bs ≡ f .size → stored f a bs ≡ toBytes f a
+  unfolding stored
+  stored-contents a e = rw (eq-eqb (length bs) (f .size) e)

@@ -81,3 +81,7 @@ toBytes f a = pack (f .widths) (withZero (f .zeroAt) (f .numbers a))
 abbrev pub writeBytes : {A : Type 0} → Format A → A → List ℕ → List ℕ → Wrote
 writeBytes f a kept bs =
     cond (eqb (length bs) (f .size)) (cond (f .ok a) (wrote 0 (toBytes f a)) (wrote (f .malformed) kept)) (wrote (numberOf Length) kept)
+
+-- contents known to be well formed go into a buffer of the right length; another keeps its bytes
+unfoldable pub stored : {A : Type 0} → Format A → A → List ℕ → List ℕ
+stored f a bs = cond (eqb (length bs) (f .size)) (toBytes f a) bs

@@ -22,7 +22,7 @@ ghost use lib.ListN.{length};
 ghost use Rattle.tally.specs.Limits.{today, imageSize, senders};
 ghost use Rattle.tally.specs.Refusal.{numberOf};
 ghost use Rattle.codec.specs.Numbers.{total, unpack, packInto};
-ghost use Rattle.codec.specs.Formats.{reading, wrote, checked};
+ghost use Rattle.codec.specs.Formats.{reading, wrote, checked, stored};
 ghost use Rattle.codec.specs.Images.{cellOf, cellCode, cellWidths, tallyWidths, tallyOf, tallyNumbers, noImage};
 ghost use Rattle.codec.specs.Images.{imageOf, imageRow, imageFormat, imageBytes, imageReading, readImage, writeImage};
 
@@ -160,6 +160,15 @@ fn put_image(i: Image, out: &mut [u8])
     logs::put_log(contents::images::image_log(i), out);
     put_tally(checks, out, AT_CHECKS);
     put_tally(seconds, out, AT_SECONDS);
+}
+
+// Stores an image that is known to be well formed, with no test of it; a buffer of another length keeps its bytes.
+pub fn store_image(i: Image, out: &mut [u8])
+    ensures { λ _. ⌜ now (out .exit) ≡ stored (imageFormat today) i (now (out .entry)) ⌝ }
+{
+    if out.len() == limits::IMAGE_SIZE {
+        put_image(i, out);
+    }
 }
 
 // Refuses as reading would, and then leaves every byte.

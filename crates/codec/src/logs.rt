@@ -19,7 +19,7 @@ ghost use Rattle.tally.specs.Limits.{today, logSize};
 ghost use Rattle.tally.specs.Refusal.{numberOf};
 ghost use Rattle.codec.specs.Numbers.{packInto};
 ghost use Rattle.codec.specs.Codes.{codeOf};
-ghost use Rattle.codec.specs.Formats.{withZero, wrote, checked};
+ghost use Rattle.codec.specs.Formats.{withZero, wrote, checked, stored};
 ghost use Rattle.codec.specs.Logs.{logWidths, logZero, engineAt, logOf, logRow, logNumbers, logFormat, logReading, readLog, writeLog};
 
 // Where the fields stand, after the engine letter.
@@ -124,6 +124,15 @@ pub(crate) fn put_log(log: Log, out: &mut [u8])
     );
     numbers::put_entry_round(out, AT_ENTRY, settings.entry, state.round);
     put_three(out, AT_PROPOSAL, proposal, first, second);
+}
+
+// Stores a log that is known to be well formed, with no test of it; a buffer of another length keeps its bytes.
+pub fn store_log(log: Log, out: &mut [u8])
+    ensures { λ _. ⌜ now (out .exit) ≡ stored (logFormat today) log (now (out .entry)) ⌝ }
+{
+    if out.len() == limits::LOG_SIZE {
+        put_log(log, out);
+    }
 }
 
 // Refuses as reading would, and then leaves every byte.

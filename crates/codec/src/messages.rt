@@ -15,7 +15,7 @@ ghost use lib.ListN.{length};
 ghost use Rattle.tally.specs.Limits.{today, messageSize};
 ghost use Rattle.tally.specs.Refusal.{numberOf};
 ghost use Rattle.codec.specs.Numbers.{packInto};
-ghost use Rattle.codec.specs.Formats.{withZero, wrote, checked};
+ghost use Rattle.codec.specs.Formats.{withZero, wrote, checked, stored};
 ghost use Rattle.codec.specs.Messages.{messageWidths, messageZero, messageOf, messageRow, messageNumbers, messageFormat, messageReading, lettersRead};
 ghost use Rattle.codec.specs.Messages.{cleared, readMessage, writeMessage, writeEmpty};
 
@@ -125,6 +125,15 @@ pub fn clear(out: &mut [u8])
         for i in 0..limits::MESSAGE_SIZE {
             out[i] = 0;
         }
+    }
+}
+
+// Stores a message that is known to be well formed, with no test of it; a buffer of another length keeps its bytes.
+pub fn store_message(m: Message, out: &mut [u8])
+    ensures { λ _. ⌜ now (out .exit) ≡ stored (messageFormat today) m (now (out .entry)) ⌝ }
+{
+    if out.len() == limits::MESSAGE_SIZE {
+        put_message(m, out);
     }
 }
 

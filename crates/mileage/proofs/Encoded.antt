@@ -46,7 +46,7 @@ answered l a =
     (codeOf (a .decision))
 
 -- the same of an answer that is accepted
-abbrev accepted : Limits → Answer → Called
+abbrev pub accepted : Limits → Answer → Called
 accepted l a = called 0 (answered l a .log) (answered l a .image) (answered l a .out) (answered l a .decision)
 
 -- a start that is accepted

@@ -1,6 +1,7 @@
 pub mod Narrow
-pub mod Calls
+pub mod FieldCalls
 pub mod Rows
+pub mod Entries
 pub mod Encoded
 pub mod Unwritten
 pub mod Examples

@@ -1,9 +1,9 @@
 -- The four calls of a unit over bytes: the rows that refuse, in order, and else the step. Assumes nothing.
-use Prim.Native.Nat.{ℕ}
+use Prim.Native.Nat.{ℕ, _^_}
 use mathlib.Core.Bool.{Bool, true, not, cond, _&&_, _||_}
 use mathlib.Core.List.{List, [], _∷_}
 use mathlib.Core.Path.{_≡_}
-use lib.Dec.{eqb}
+use lib.Dec.{eqb, ltb}
 use lib.ListN.{length}
 use Rattle.tally.specs.Limits.{Limits, blankCode, logSize, imageSize, messageSize}
 use Rattle.tally.specs.Refusal.{numberOf}
@@ -11,15 +11,14 @@ use Rattle.tally.specs.declared.Engine.the-variants.{B}
 use Rattle.tally.specs.declared.Refusal.{Refusal}
 use Rattle.contents.specs.Images.{fits}
 use Rattle.contents.specs.Logs.{numbersOk}
-use Rattle.contents.specs.declared.Image.{Image}
 use Rattle.contents.specs.declared.Kind.{Kind}
 use Rattle.contents.specs.declared.Kind.the-variants.{Empty, First, Check, Second, Skip}
 use Rattle.contents.specs.declared.Log.{Log}
 use Rattle.contents.specs.declared.Message.{Message}
 use Rattle.contents.specs.declared.Settings.{Settings}
 use Rattle.codec.specs.Codes.{engineOf, codeOf}
-use Rattle.codec.specs.Formats.{Reading, toBytes}
-use Rattle.codec.specs.Images.{readImage, imageBytes}
+use Rattle.codec.specs.Formats.{Reading, toBytes, stored}
+use Rattle.codec.specs.Images.{imageFormat, readImage, imageBytes}
 use Rattle.codec.specs.Logs.{logFormat, readLog}
 use Rattle.codec.specs.Messages.{messageFormat, readMessage, emptyBytes, cleared}
 use Rattle.codec.specs.declared.EngineRead.{EngineRead}
@@ -28,6 +27,7 @@ use Rattle.consensus.specs.Methods.{forOther, outOfRange, closesLast}
 use Rattle.consensus.specs.Rows.{Row, row, firstOf, Lowest}
 use Rattle.consensus.specs.Step.{fresh, recovered, proposed, received}
 use Rattle.consensus.specs.Units.{unitLog, unitImage, upUnit, downUnit}
+use Rattle.consensus.specs.declared.Answer.{Answer}
 use Rattle.consensus.specs.declared.Unit as U
 
 -- what a call answers: its number, what the log, image and output buffers hold at exit, and the decision as it is stored
@@ -162,3 +162,25 @@ deliverCall l log image message out =
 pub record Refusing (l : Limits) (rows : List Row) (log image out : List ℕ) (c : Called) : Type 0 where
   pub number : Lowest rows (c .number)
   pub refused : (c .number ≡ 0 → ⊥) → c ≡ called (c .number) log image (cleared l out) blankCode
+
+-- ---- what helpers of the code promise, and no public contract says
+
+-- the numbers of a start fit the code's types
+unfoldable pub settingsNarrow : ℕ → ℕ → ℕ → ℕ → Bool
+settingsNarrow engine n unit entry = ltb engine (256 ^ 1) && ltb n (256 ^ 1) && ltb unit (256 ^ 1) && ltb entry (256 ^ 2)
+
+-- an empty message leaves the buffer
+unfoldable pub storedMessage : Limits → Kind → Message → List ℕ → List ℕ
+storedMessage l Empty m out = out
+storedMessage l First m out = stored (messageFormat l) m out
+storedMessage l Check m out = stored (messageFormat l) m out
+storedMessage l Second m out = stored (messageFormat l) m out
+storedMessage l Skip m out = stored (messageFormat l) m out
+
+-- an answer that refuses nothing is stored; a refusal leaves all as it is
+unfoldable pub storedAnswer : Limits → Answer → List ℕ → List ℕ → List ℕ → ℕ → Called
+storedAnswer l a log image out d =
+    cond (eqb (numberOf (a .refusal)) 0)
+    (called (numberOf (a .refusal)) (stored (logFormat l) (unitLog (a .unit)) log) (stored (imageFormat l) (unitImage (a .unit)) image)
+    (storedMessage l (a .message .kind) (a .message) out) (codeOf (a .decision)))
+    (called (numberOf (a .refusal)) log image out d)

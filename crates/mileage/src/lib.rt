@@ -1,19 +1,25 @@
-// What a C program links: logs and messages as plain numbers and as bytes.
+// What a C program links: logs and messages as plain numbers and as bytes, and the four calls of a unit.
+mod calls;
 mod fields;
 
 use codec::EngineRead;
 use codec::KindRead;
 use codec::LogRead;
 use codec::MessageRead;
+use consensus::Unit;
+use consensus::methods;
+use contents::Settings;
 use tally::Refusal;
 use tally::limits;
 ghost use mathlib.Core.Path.{_≡_};
 ghost use mathlib.Core.Bool.{true};
+ghost use mathlib.Core.List.{[]};
 ghost use lib.ListN.{length};
-ghost use Rattle.tally.specs.Limits.{today, messageSize, messageFields};
+ghost use Rattle.tally.specs.Limits.{today, blankCode, messageSize, messageFields};
 ghost use Rattle.tally.specs.Refusal.{numberOf};
 ghost use Rattle.codec.specs.Formats.{wrote};
 ghost use Rattle.codec.specs.Messages.{cleared};
+ghost use Rattle.mileage.specs.Calls.{called, startCall, keyOnCall, proposeCall, deliverCall};
 ghost use Rattle.mileage.specs.Fields.{messageNarrow, writeKnown, readLogCall, writeLogCall, readMessageCall, writeMessageCall};
 
 // Reads a log's eight numbers: engine letter, n, unit, entry, round, proposal, first and second estimate.
@@ -113,4 +119,139 @@ pub extern "C" fn mileage_write_message(fields: &[u32], message: &mut [u8]) -> u
     let kind = codec::codes::kind_of(fields[0] as u8);
     let engine = codec::codes::engine_of(fields[1] as u8);
     write_known(kind, engine, fields, message)
+}
+
+// Starts a unit: writes its log and its image, and reads neither. The engine is its letter's number.
+#[no_mangle]
+pub extern "C" fn mileage_start(
+    engine: u32,
+    n: u32,
+    unit: u32,
+    entry: u32,
+    log: &mut [u8],
+    image: &mut [u8],
+) -> u32
+    ensures { λ r. ⌜ called r (now (log .exit)) (now (image .exit)) [] blankCode
+        ≡ startCall today engine n unit entry (now (log .entry)) (now (image .entry)) ⌝ }
+{
+    if log.len() != limits::LOG_SIZE {
+        return tally::number(Refusal::Length);
+    }
+    if image.len() != limits::IMAGE_SIZE {
+        return tally::number(Refusal::Length);
+    }
+    if !calls::settings_narrow(engine, n, unit, entry) {
+        return tally::number(Refusal::Log);
+    }
+    let EngineRead::Is(e) = codec::codes::engine_of(engine as u8) else {
+        return tally::number(Refusal::Log);
+    };
+    let settings = Settings {
+        engine: e,
+        n: n as u8,
+        unit: unit as u8,
+        entry: entry as u16,
+    };
+    if !contents::logs::settings_ok(settings) {
+        return tally::number(Refusal::Log);
+    }
+    calls::put_unit(Unit::fresh(settings), log, image);
+    tally::number(Refusal::None)
+}
+
+// Key-on: writes the image that the log gives, and does not read what it held.
+#[no_mangle]
+pub extern "C" fn mileage_key_on(log: &[u8], image: &mut [u8]) -> u32
+    ensures { λ r. ⌜ called r (now (log .entry)) (now (image .exit)) [] blankCode ≡ keyOnCall today (now (log .entry)) (now (image .entry)) ⌝ }
+{
+    if log.len() != limits::LOG_SIZE {
+        return tally::number(Refusal::Length);
+    }
+    if image.len() != limits::IMAGE_SIZE {
+        return tally::number(Refusal::Length);
+    }
+    let LogRead::Read(l) = codec::logs::read_log(log) else {
+        return tally::number(Refusal::Log);
+    };
+    codec::images::store_image(Unit::down(l).recovered().image(), image);
+    tally::number(Refusal::None)
+}
+
+// Proposes a mileage: writes the image and a message, and no log.
+#[no_mangle]
+pub extern "C" fn mileage_propose(log: &[u8], image: &mut [u8], mileage: u32, out: &mut [u8]) -> u32
+    ensures { λ r. ⌜ called r (now (log .entry)) (now (image .exit)) (now (out .exit)) blankCode
+        ≡ proposeCall today (now (log .entry)) (now (image .entry)) mileage (now (out .entry)) ⌝ }
+{
+    codec::messages::clear(out);
+    if log.len() != limits::LOG_SIZE {
+        return tally::number(Refusal::Length);
+    }
+    if image.len() != limits::IMAGE_SIZE {
+        return tally::number(Refusal::Length);
+    }
+    if out.len() != limits::MESSAGE_SIZE {
+        return tally::number(Refusal::Length);
+    }
+    let LogRead::Read(l) = codec::logs::read_log(log) else {
+        return tally::number(Refusal::Log);
+    };
+    let read = codec::images::read_image(image);
+    let i = read.image;
+    if !calls::usable(read, l) {
+        return tally::number(Refusal::Image);
+    }
+    if methods::out_of_range(mileage) {
+        return tally::number(Refusal::Mileage);
+    }
+    let a = Unit::up(l, i).proposed(mileage);
+    let u = a.unit;
+    let sent = a.message;
+    codec::images::store_image(u.image(), image);
+    calls::put_message(sent, out);
+    tally::number(Refusal::None)
+}
+
+// Delivers a message: writes log, image, message and decision, where nothing is refused.
+#[no_mangle]
+pub extern "C" fn mileage_deliver(
+    log: &mut [u8],
+    image: &mut [u8],
+    message: &[u8],
+    out: &mut [u8],
+    decision: &mut u32,
+) -> u32
+    ensures { λ r. ⌜ called r (now (log .exit)) (now (image .exit)) (now (out .exit)) (now (decision .exit))
+        ≡ deliverCall today (now (log .entry)) (now (image .entry)) (now (message .entry)) (now (out .entry)) ⌝ }
+{
+    *decision = limits::BLANK;
+    codec::messages::clear(out);
+    if log.len() != limits::LOG_SIZE {
+        return tally::number(Refusal::Length);
+    }
+    if image.len() != limits::IMAGE_SIZE {
+        return tally::number(Refusal::Length);
+    }
+    if message.len() != limits::MESSAGE_SIZE {
+        return tally::number(Refusal::Length);
+    }
+    if out.len() != limits::MESSAGE_SIZE {
+        return tally::number(Refusal::Length);
+    }
+    let LogRead::Read(l) = codec::logs::read_log(log) else {
+        return tally::number(Refusal::Log);
+    };
+    let read = codec::images::read_image(image);
+    let i = read.image;
+    if !calls::usable(read, l) {
+        return tally::number(Refusal::Image);
+    }
+    let MessageRead::Read(m) = codec::messages::read_message(message) else {
+        return tally::number(Refusal::Message);
+    };
+    let settings = l.settings;
+    if methods::for_other(settings, m) {
+        return tally::number(Refusal::Addressee);
+    }
+    calls::take(Unit::up(l, i), m, log, image, out, decision)
 }

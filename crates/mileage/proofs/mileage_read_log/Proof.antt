@@ -7,7 +7,7 @@ use Rattle.codec.specs.Formats.{wrote}
 use Rattle.codec.specs.Logs.{logFormat, logReading, readLog}
 use Rattle.codec.proofs.LogFormat.{lawful}
 use Rattle.mileage.specs.Fields.{readLogCall}
-use Rattle.mileage.proofs.Calls.{read-accepted, read-refused}
+use Rattle.mileage.proofs.FieldCalls.{read-accepted, read-refused}
 use Rattle.mileage.proofs.mileage_read_log.Statement.{statement}
 use Rattle.mileage.proofs.mileage_read_log.Tie as tie
 

@@ -7,7 +7,7 @@ use Rattle.codec.specs.Formats.{wrote}
 use Rattle.codec.specs.Messages.{messageFormat, messageReading, readMessage}
 use Rattle.codec.proofs.MessageFormat.{lawful}
 use Rattle.mileage.specs.Fields.{readMessageCall}
-use Rattle.mileage.proofs.Calls.{read-accepted, read-refused}
+use Rattle.mileage.proofs.FieldCalls.{read-accepted, read-refused}
 use Rattle.mileage.proofs.mileage_read_message.Statement.{statement}
 use Rattle.mileage.proofs.mileage_read_message.Tie as tie
 

@@ -7,7 +7,7 @@ use Rattle.codec.specs.Logs.{logOf, logFormat, writeLog}
 use Rattle.codec.proofs.LogFormat.{lawful}
 use Rattle.mileage.specs.Fields.{logHead, logNarrow, writeLogCall}
 use Rattle.mileage.proofs.Narrow.{log-small, too-large}
-use Rattle.mileage.proofs.Calls.{put-checked}
+use Rattle.mileage.proofs.FieldCalls.{put-checked}
 use borrow.Author.Needs.{needs}
 use Rattle.mileage.proofs.mileage_write_log.Statement.{statement}
 use Rattle.mileage.proofs.mileage_write_log.Tie as tie

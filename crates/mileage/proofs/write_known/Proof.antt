@@ -3,7 +3,7 @@ use Rattle.tally.specs.Limits.{today}
 use Rattle.tally.proofs.Bounds.{sane-today}
 use Rattle.codec.specs.Messages.{messageOf, messageFormat, cleared, writeMessage}
 use Rattle.codec.proofs.MessageFormat.{lawful}
-use Rattle.mileage.proofs.Calls.{put-checked}
+use Rattle.mileage.proofs.FieldCalls.{put-checked}
 use borrow.Author.Needs.{needs}
 use Rattle.mileage.proofs.write_known.Statement.{statement}
 use Rattle.mileage.proofs.write_known.Tie as tie

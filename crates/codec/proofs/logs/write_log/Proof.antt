@@ -1,9 +1,9 @@
 use mathlib.Core.Path.{refl, sym, ap, _∙_}
 use borrow.Author.Tests.{eq-eqb, ne-eqb, not-true, not-false}
-use Rattle.codec.specs.Formats.{wrote, withZero}
-use Rattle.codec.specs.Logs.{logWidths, logZero, logNumbers, writeLog}
+use Rattle.codec.specs.Formats.{wrote}
+use Rattle.codec.specs.Logs.{logFormat, writeLog}
 use Rattle.tally.specs.Limits.{today}
-use Rattle.codec.proofs.Rows.{packInto-eq}
+use Rattle.codec.proofs.Steps.{packed}
 use borrow.Author.Needs.{needs}
 use Rattle.codec.proofs.logs.write_log.Statement.{statement}
 use Rattle.codec.proofs.logs.write_log.Tie as tie
@@ -15,8 +15,7 @@ returns-3 c =
     let start = b .before .before .before .before .args in
     rw (eq-eqb _ _ (b .before .before .if1 .left), sym (b .before .well-formed .ensures) ∙ not-false _ (b .if2 .left))
     (ap (wrote 0)
-    (c .before .before .put-log .ensures
-    ∙ packInto-eq (logWidths today) (withZero logZero (logNumbers (start .log))) (start .out .now) 0 refl (sym (b .before .before .if1 .left))))
+    (c .before .before .put-log .ensures ∙ packed (logFormat today) (start .out .now) (start .log) refl refl (b .before .before .if1 .left)))
 
 pub write-log-spec : {M : Type 1} → statement M
 unfolding writeLog

@@ -3,10 +3,10 @@ use Rattle.tally.specs.declared.Refusal.the-variants.{Length, Message}
 use mathlib.Core.Path.{refl, sym, ap, _∙_}
 use lib.ListN.{length}
 use borrow.Author.Tests.{eq-eqb, ne-eqb, not-true, not-false}
-use Rattle.codec.specs.Formats.{wrote, withZero}
-use Rattle.codec.specs.Messages.{messageWidths, messageZero, messageNumbers, writeMessage}
+use Rattle.codec.specs.Formats.{wrote}
+use Rattle.codec.specs.Messages.{messageFormat, writeMessage}
 use Rattle.tally.specs.Limits.{today}
-use Rattle.codec.proofs.Rows.{packInto-eq}
+use Rattle.codec.proofs.Steps.{packed}
 use Rattle.codec.proofs.Cleared.{length-cleared}
 use borrow.Author.Needs.{needs}
 use Rattle.codec.proofs.messages.write_message.Statement.{statement}
@@ -33,15 +33,13 @@ returns-3 : tie.Need-returns-3
 unfolding writeMessage
 returns-3 c =
     let cleared-out = c .before .before .before .before .before .before .before .before .before .clear .ensures in
-    let bs = c .before .before .before .before .before .before .before .before .before .before .before .before .args .out .now in
-    let long = ap length cleared-out ∙ length-cleared today bs in
+    let start = c .before .before .before .before .before .before .before .before .before .before .before .before .args in
+    let long = ap length cleared-out ∙ length-cleared today (start .out .now) in
     let b = c .before .before .before .before in
     let size = b .before .before .if1 .left in
     rw (eq-eqb _ _ (sym long ∙ size), sym (b .before .well-formed .ensures) ∙ not-false _ (b .if2 .left))
     (ap (wrote 0)
-    (c .before .before .put-message .ensures
-    ∙ packInto-eq (messageWidths today) (withZero messageZero (messageNumbers
-    (c .before .before .before .before .before .before .before .before .before .before .before .before .args .m))) _ 0 refl (sym size)))
+    (c .before .before .put-message .ensures ∙ packed (messageFormat today) _ (start .m) refl refl size))
 
 pub write-message-spec : {M : Type 1} → statement M
 write-message-spec =

@@ -1,6 +1,6 @@
 use native.Mathlib.Omega.{arith}
 use lib.ListN.{length-set}
-use Rattle.mileage.proofs.Calls.{stored}
+use Rattle.mileage.proofs.FieldCalls.{stored}
 use Rattle.codec.specs.Logs.{logNumbers}
 use borrow.Author.Needs.{needs}
 use Rattle.mileage.proofs.fields.put_log.Statement.{statement}
