@@ -1,10 +1,12 @@
 /*
- * The mileage agreement core as C firmware calls it: reading and writing logs and messages.
+ * The mileage agreement core as C firmware calls it: the unit of one entry (starting it, key-on, proposing, delivering),
+ * and reading and writing logs and messages.
  *
- * A slice is passed as a pointer and then its length. The length counts elements: bytes of a log or a message,
+ * A slice is passed as a pointer and then its length. The length counts elements: bytes of a log, an image or a message,
  * numbers of a fields buffer. The buffers of one call must not overlap.
  *
- * Every call answers with a number: MILEAGE_ACCEPTED, or why it was turned down. Lengths are looked at first.
+ * Every call answers with a number: MILEAGE_ACCEPTED, or why it was turned down. Lengths are looked at first; of several
+ * reasons the lowest number is given. A call keeps nothing of its own: all that a unit is lies in its log and its image.
  */
 #ifndef MILEAGE_H
 #define MILEAGE_H
@@ -15,6 +17,7 @@
 /* Lengths, in elements. */
 #define MILEAGE_LOG_LENGTH 20
 #define MILEAGE_LOG_FIELDS 8
+#define MILEAGE_IMAGE_LENGTH 152
 #define MILEAGE_MESSAGE_LENGTH 18
 #define MILEAGE_MESSAGE_FIELDS 9
 
@@ -25,17 +28,72 @@
 /* The receiver of a message that goes to every unit, its sender too. */
 #define MILEAGE_EVERYONE UINT32_C(255)
 
-/* The numbers that the calls below answer with. */
+/*
+ * The numbers that the calls below answer with.
+ * 1: a buffer's length is wrong. 2: the log is malformed, or the settings of a fresh unit are out of range. 3: the image
+ * is malformed or does not fit the log. 4: the message is malformed. 5: the message is of another engine, n or entry, or
+ * for another unit. 6: the mileage is above 9,999,999. 7: this SECOND would close round 9,999, and there is no next one.
+ */
 #define MILEAGE_ACCEPTED UINT32_C(0)
 #define MILEAGE_WRONG_LENGTH UINT32_C(1)
 #define MILEAGE_MALFORMED_LOG UINT32_C(2)
+#define MILEAGE_UNFIT_IMAGE UINT32_C(3)
 #define MILEAGE_MALFORMED_MESSAGE UINT32_C(4)
+#define MILEAGE_NOT_FOR_UNIT UINT32_C(5)
+#define MILEAGE_OUT_OF_RANGE UINT32_C(6)
+#define MILEAGE_LAST_ROUND UINT32_C(7)
 
 /*
  * What fields hold. Engine letter: 'B' or 'R'. n, the units: 3 to 16. A unit: below n. Entry: 1 to 9,999. Round: 0 to
  * 9,999. Proposals and estimates: a mileage, 0 to 9,999,999, or blank or split where the kind and the engine allow it.
  * Kind letter of a message: 'F' (FIRST), 'C' (CHECK, in B only), 'S' (SECOND), 'K' (SKIP).
  */
+
+/*
+ * A unit of one entry has a log, kept in permanent memory, and an image, kept in working memory and lost at key-off.
+ * Firmware lends both to every call and looks into neither. It does this:
+ *
+ * - Once for each entry: mileage_start, and the log goes to permanent memory. Never again for that entry, or the unit
+ *   forgets what it has promised the others.
+ * - After each key-on, before any other call: mileage_key_on, with the log from permanent memory.
+ * - To propose a mileage, or to try again after some time without a decision: mileage_propose. The log stays as it is.
+ * - For each message from the bus, its own messages to everyone too: mileage_deliver. If the log has changed, the whole
+ *   log goes to permanent memory, and only then does the message in the output buffer leave. It is written as one piece:
+ *   after a key-off the old log or the new one stands, never a mix.
+ * - A message of 18 zero bytes in the output buffer is no message. Any other goes to all units, its sender too, or, if
+ *   its kind is 'K', to the one unit that its byte 4 names. A message may be lost, late or delivered more than once.
+ * - After a refusal nothing needs to be written or sent, and the unit goes on from the same log and image.
+ *
+ * After a refusal log and image are as they were, and an output buffer of 18 bytes is all zeros; one of another length
+ * is as it was. Buffers passed as const are only read.
+ */
+
+/*
+ * Starts a unit: round 0, nothing proposed, no marks. `engine` is the letter's ASCII number. Writes log and image, and
+ * reads neither. Answers 0, 1 or 2.
+ */
+uint32_t mileage_start(uint32_t engine, uint32_t n, uint32_t unit, uint32_t entry,
+                       uint8_t *log, size_t log_len, uint8_t *image, size_t image_len);
+
+/* Makes the image of a log, without marks. Reads the log; writes the image, and does not read it. Answers 0, 1 or 2. */
+uint32_t mileage_key_on(const uint8_t *log, size_t log_len, uint8_t *image, size_t image_len);
+
+/*
+ * Proposes: the mileage given where the unit has no proposal yet, else the proposal it has (the mileage must be in range
+ * all the same). Reads log and image; writes the image, and to the output buffer the FIRST that goes out. Answers 0, 1,
+ * 2, 3 or 6.
+ */
+uint32_t mileage_propose(const uint8_t *log, size_t log_len, uint8_t *image, size_t image_len, uint32_t mileage,
+                         uint8_t *out, size_t out_len);
+
+/*
+ * Delivers a message to the unit. Reads log, image and message; writes the image, the log where the step logs, and to
+ * the output buffer the message that goes out, or the empty one. `decision` is always written: the mileage decided, or
+ * MILEAGE_BLANK where there is none, on a refusal too. A unit may report its decision again, always the same mileage.
+ * Answers 0, 1, 2, 3, 4, 5 or 7.
+ */
+uint32_t mileage_deliver(uint8_t *log, size_t log_len, uint8_t *image, size_t image_len,
+                         const uint8_t *message, size_t message_len, uint8_t *out, size_t out_len, uint32_t *decision);
 
 /*
  * The fields of a log, in this order: engine letter, n, unit, entry, round, proposal, first estimate, second estimate.
@@ -48,7 +106,7 @@ uint32_t mileage_write_log(const uint32_t *fields, size_t fields_len, uint8_t *l
 
 /*
  * The fields of a message, in this order: kind letter, engine letter, n, sender, receiver, entry, round, estimate,
- * proposal.
+ * proposal. Reading one from the bus tells its entry, and so which log and image to lend.
  * Reading: a refusal leaves the fields as they were. The empty message, 18 zero bytes, is refused as malformed.
  * Writing: a refusal leaves a message buffer of 18 bytes all zeros, and one of another length as it was. Fields that
  * reading would refuse are refused, and so is a number too large for its bytes.

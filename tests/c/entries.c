@@ -12,16 +12,10 @@
 #include <stdlib.h>
 #include <string.h>
 
-#include "mileage.h"
+#include "cases.h"
 #include "reference.h"
 
-#define BLANK MILEAGE_BLANK
-#define SPLIT MILEAGE_SPLIT
 #define DEFAULT_ROUNDS 2000000ul
-
-/* An array's length; and some values as two arguments or members, the array and its length. */
-#define COUNT(array) (sizeof(array) / sizeof(array)[0])
-#define VALUES(...) (const uint32_t[]){__VA_ARGS__}, COUNT(((const uint32_t[]){__VA_ARGS__}))
 
 /* A row in full: the number, the fields, the bytes in hex. */
 enum { MOST_BYTES = 20, MOST_FIELDS = 9 };
@@ -33,25 +27,11 @@ struct row {
 /* A rule: these good rows, with one of the values in each of these fields, are accepted, or refused with the number. */
 struct rule {
     uint32_t rows, fields, number;
-    struct values { const uint32_t *values; size_t count; } accepted, refused;
+    struct values accepted, refused;
 };
 #define EVERY UINT32_MAX
 #define ACCEPTED(...) .accepted = {VALUES(__VA_ARGS__)}
 #define REFUSED(no, ...) .number = no, .refused = {VALUES(__VA_ARGS__)}
-
-/* Values in and out of each range, its ends first. A sum is in range only if cut to one or two bytes. */
-#define NO_KIND 0, 'B', 'Z', 'f', 'c', 's', 'k', 255, 'F' + 65536, 'C' + 65536, 'S' + 65536, 'K' + 65536
-#define NO_ENGINE 0, 'A', 'C', 'Q', 'S', 'b', 'r', 255, 'B' + 65536, 'R' + 65536
-#define NO_N 2, 17, 0, 255, 3 + 256, 16 + 65536, BLANK
-#define NOT_BELOW_3 3, 254, 255, 2 + 256, 0 + 65536, BLANK
-#define NOT_BELOW_16 16, 254, 255, 15 + 256, 0 + 65536, BLANK
-#define ENTRIES 1, 9999, 255, 256
-#define NO_ENTRY 0, 10000, 65535, 1 + 65536, 9999 + 65536, BLANK
-#define ROUNDS 0, 9999, 255, 256
-#define NO_ROUND 10000, 65535, 0 + 65536, 9999 + 65536, BLANK
-#define MILEAGES 0, 9999999, 65535, 65536
-#define NO_MILEAGE 10000000, 2147483648, 4294967293
-#define NOT_412077 412076, 412078, 412077 + 65536, 412077 + 16777216, MILEAGES, NO_MILEAGE, SPLIT, BLANK
 
 /* Logs. The rules name sets of fields and sets of rows: 1 is the first, 2 the second, 4 the third. */
 enum { L_ENGINE = 1, L_N = 2, L_UNIT = 4, L_ENTRY = 8, L_ROUND = 16, L_PROPOSAL = 32, L_FIRST = 64, L_SECOND = 128 };
@@ -133,28 +113,6 @@ static const struct rule message_rules[] = {
     {EVERY, EVERY, REFUSED(4, 0, BLANK)},
 };
 
-/* Random numbers: xorshift with a fixed seed, so every run makes the same cases. */
-static uint32_t below(uint32_t bound)
-{
-    static uint64_t state = UINT64_C(0x9e3779b97f4a7c15);
-
-    state ^= state << 13;
-    state ^= state >> 7;
-    state ^= state << 17;
-    return (uint32_t)(state >> 32) % bound;
-}
-
-static uint32_t one_of(const uint32_t *values, size_t count)
-{
-    return values[below((uint32_t)count)];
-}
-
-/* A number from low to high, often one of the two ends. */
-static uint32_t between(uint32_t low, uint32_t high)
-{
-    return below(4) ? low + below(high - low + 1) : one_of(VALUES(low, high));
-}
-
 static uint32_t mileage_or(uint32_t other)
 {
     return below(3) ? between(0, 9999999) : other;
@@ -223,20 +181,13 @@ static bool pack(const struct format *format, const uint32_t *fields, uint8_t *b
 }
 
 /* The two buffers of a call, each behind a guard and before one, and the number it gave. */
-enum { GUARD = 8, BYTES_ROOM = GUARD + MOST_BYTES + 1 + GUARD, FIELDS_ROOM = GUARD + MOST_FIELDS + 1 + GUARD };
+enum { BYTES_ROOM = GUARD + MOST_BYTES + 1 + GUARD, FIELDS_ROOM = GUARD + MOST_FIELDS + 1 + GUARD };
 struct lent {
     uint32_t number;
     size_t bytes_len, fields_len;
     uint8_t bytes[BYTES_ROOM];
     uint32_t fields[FIELDS_ROOM];
 };
-
-/* The right length, then wrong ones; the last two are right only if cut to one or two bytes. */
-enum { LENGTHS = 6, LONGEST = 65536 };
-static size_t length(size_t right, unsigned choice)
-{
-    return (const size_t[LENGTHS]){right, 0, right - 1, right + 1, right + 256, right + LONGEST}[choice];
-}
 
 /* Reading is lent the bytes, writing the fields; the other buffer and the guards are filled with a random byte. */
 enum way { READ, WRITE };

@@ -2,6 +2,7 @@
 use super::Answer;
 use super::Power;
 use super::Unit;
+use super::step;
 use contents::Kind;
 use contents::Message;
 use contents::Settings;
@@ -68,7 +69,8 @@ impl Unit {
             & (m.round == limits::LAST_ROUND)
             & (self.current.round == limits::LAST_ROUND)
         {
-            !tally::is_marked(self.seconds.marks, m.sender) & self.is_full(self.seconds_with(m))
+            !tally::is_marked(self.seconds.marks, m.sender)
+                & step::is_full(self.settings, step::marked(self.seconds, m))
         } else {
             false
         }
@@ -81,12 +83,12 @@ impl Unit {
         Answer {
             refusal,
             unit: self,
-            message: super::step::silence(),
+            message: step::silence(),
             decision: Estimate::Blank,
         }
     }
 
-    // A delivery to an up unit of a well-formed message that is for it.
+    // A delivery of a message that has been read, and found to be for this unit, which is up: 7 is the one refusal left.
     pub fn take(self, m: Message) -> Answer
         requires { ⌜ messageOk today m ≡ true ⌝ }
         ensures { λ r. ⌜ r ≡ taken today self m ⌝ }
@@ -98,6 +100,7 @@ impl Unit {
         }
     }
 
+    // Proposes a mileage.
     pub fn propose(self, mileage: u32) -> Answer
         ensures { λ r. ⌜ r ≡ propose today self mileage ⌝ }
     {
@@ -111,6 +114,7 @@ impl Unit {
         self.proposed(mileage)
     }
 
+    // Takes a message.
     pub fn deliver(self, m: Message) -> Answer
         ensures { λ r. ⌜ r ≡ deliver today self m ⌝ }
     {
@@ -128,7 +132,7 @@ impl Unit {
         self.take(m)
     }
 
-    // The image is lost.
+    // The unit goes down, and its image is lost.
     pub fn key_off(self) -> Answer
         ensures { λ r. ⌜ r ≡ keyOff self ⌝ }
     {
@@ -140,6 +144,7 @@ impl Unit {
         }
     }
 
+    // The unit comes up at its log.
     pub fn key_on(self) -> Answer
         ensures { λ r. ⌜ r ≡ keyOn self ⌝ }
     {

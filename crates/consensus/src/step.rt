@@ -15,11 +15,15 @@ use tally::limits;
 use tally::limits::Round;
 ghost use mathlib.Core.Path.{_≡_};
 ghost use Prim.Native.Nat.{_<_, _≤_};
+ghost use lib.Count.{ones};
+ghost use lib.Dec.{leb};
 ghost use Rattle.tally.specs.Limits.{today, senders};
+ghost use Rattle.tally.specs.Quorum.{quorumOf};
+ghost use Rattle.tally.specs.Tally.{mark};
 ghost use Rattle.consensus.specs.Step.{silence, gives, quiet, says, sends, withCurrent, withChecks, withSeconds, logWrite, clean, atRound};
 ghost use Rattle.consensus.specs.Step.{fresh, recovered, orIfBlank, sendFirst, proposed, voteKind, voteProposal, takeFirst, onFirst};
-ghost use Rattle.consensus.specs.Step.{isFull, takeSecond, countCheck, checksWith, onCheck, decided, nextProposal, close, countSecond};
-ghost use Rattle.consensus.specs.Step.{secondsWith, onSecond, onKind, skip, caughtUp, received};
+ghost use Rattle.consensus.specs.Step.{takeSecond, countCheck, onCheck, decided, nextProposal, close, countSecond};
+ghost use Rattle.consensus.specs.Step.{onSecond, onKind, skip, caughtUp, received};
 
 // An empty message is what a step that sends nothing gives.
 pub fn silence() -> Message
@@ -95,6 +99,23 @@ fn next_proposal(engine: Engine, n: u8, t: Tally, own: Estimate) -> Estimate
         Engine::B => or_if_blank(t.lowest(), own),
         Engine::R => t.majority(tally::majority_size(n)),
     }
+}
+
+// Is the quorum there?
+pub(crate) fn is_full(s: Settings, t: Tally) -> bool
+    ensures { λ r. ⌜ r ≡ leb (quorumOf (s .engine) (s .n)) (ones (t .marks)) ⌝ }
+{
+    let engine = s.engine;
+    tally::quorum(engine, s.n) <= t.count()
+}
+
+// A tally with a message's sender marked, and its estimate.
+pub(crate) fn marked(t: Tally, m: Message) -> Tally
+    requires { ⌜ m .sender < senders ⌝ }
+    ensures { λ r. ⌜ r ≡ mark t (m .sender) (m .estimate) ⌝ }
+{
+    let estimate = m.estimate;
+    t.mark(m.sender, estimate)
 }
 
 impl Unit {
@@ -261,15 +282,6 @@ impl Unit {
     }
 
     // ---- CHECK
-    // Is the quorum there?
-    pub(crate) fn is_full(self, t: Tally) -> bool
-        ensures { λ r. ⌜ r ≡ isFull self t ⌝ }
-    {
-        let settings = self.settings;
-        let engine = settings.engine;
-        tally::quorum(engine, settings.n) <= t.count()
-    }
-
     // The second estimate is set; log; CHECK marks are cleared; SECOND goes out.
     fn take_second(self, e: Estimate) -> Answer
         ensures { λ r. ⌜ r ≡ takeSecond self e ⌝ }
@@ -287,20 +299,11 @@ impl Unit {
     fn count_check(self, t: Tally) -> Answer
         ensures { λ r. ⌜ r ≡ countCheck self t ⌝ }
     {
-        if self.is_full(t) {
+        if is_full(self.settings, t) {
             self.take_second(t.common())
         } else {
             self.with_checks(t).quiet()
         }
-    }
-
-    fn checks_with(self, m: Message) -> Tally
-        requires { ⌜ m .sender < senders ⌝ }
-        ensures { λ r. ⌜ r ≡ checksWith self m ⌝ }
-    {
-        let checks = self.checks;
-        let estimate = m.estimate;
-        checks.mark(m.sender, estimate)
     }
 
     fn on_check(self, m: Message) -> Answer
@@ -310,7 +313,7 @@ impl Unit {
         let current = self.current;
         let second = current.second;
         if estimates::is_blank(second) & !tally::is_marked(self.checks.marks, m.sender) {
-            self.count_check(self.checks_with(m))
+            self.count_check(marked(self.checks, m))
         } else {
             self.quiet()
         }
@@ -334,20 +337,11 @@ impl Unit {
         requires { ⌜ self .current .round ≤ today .lastRound ⌝ }
         ensures { λ r. ⌜ r ≡ countSecond self t ⌝ }
     {
-        if self.is_full(t) {
+        if is_full(self.settings, t) {
             self.close(t)
         } else {
             self.with_seconds(t).quiet()
         }
-    }
-
-    pub(crate) fn seconds_with(self, m: Message) -> Tally
-        requires { ⌜ m .sender < senders ⌝ }
-        ensures { λ r. ⌜ r ≡ secondsWith self m ⌝ }
-    {
-        let seconds = self.seconds;
-        let estimate = m.estimate;
-        seconds.mark(m.sender, estimate)
     }
 
     fn on_second(self, m: Message) -> Answer
@@ -357,7 +351,7 @@ impl Unit {
         if tally::is_marked(self.seconds.marks, m.sender) {
             self.quiet()
         } else {
-            self.count_second(self.seconds_with(m))
+            self.count_second(marked(self.seconds, m))
         }
     }
 

@@ -1,10 +1,10 @@
-use Rattle.consensus.specs.Step.{countCheck}
+use Rattle.consensus.specs.Step.{isFull, countCheck}
 use borrow.Author.Needs.{needs}
 use Rattle.consensus.proofs.Unit.count_check.Statement.{statement}
 use Rattle.consensus.proofs.Unit.count_check.Tie as tie
 
 pub count-check-spec : {M : Type 1} → statement M
-unfolding countCheck
+unfolding countCheck isFull
 count-check-spec =
     tie.close
     (tie.spec

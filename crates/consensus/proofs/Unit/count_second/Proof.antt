@@ -1,10 +1,10 @@
-use Rattle.consensus.specs.Step.{countSecond}
+use Rattle.consensus.specs.Step.{isFull, countSecond}
 use borrow.Author.Needs.{needs}
 use Rattle.consensus.proofs.Unit.count_second.Statement.{statement}
 use Rattle.consensus.proofs.Unit.count_second.Tie as tie
 
 pub count-second-spec : {M : Type 1} → statement M
-unfolding countSecond
+unfolding countSecond isFull
 count-second-spec =
     tie.close
     (tie.spec

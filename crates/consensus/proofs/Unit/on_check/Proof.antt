@@ -1,10 +1,10 @@
-use Rattle.consensus.specs.Step.{onCheck}
+use Rattle.consensus.specs.Step.{checksWith, onCheck}
 use borrow.Author.Needs.{needs}
 use Rattle.consensus.proofs.Unit.on_check.Statement.{statement}
 use Rattle.consensus.proofs.Unit.on_check.Tie as tie
 
 pub on-check-spec : {M : Type 1} → statement M
-unfolding onCheck
+unfolding onCheck checksWith
 on-check-spec =
     tie.close
     (tie.spec
@@ -17,7 +17,7 @@ on-check-spec =
       ← (c .before .before .before .before .is-blank .ensures),
       ← (c .before .before .before .is-marked .ensures),
       c .before .before .if1 .taken,
-      ← (c .before .checks-with .ensures),
+      ← (c .before .marked .ensures),
     )
     (c .count-check .ensures))
     (λ c. simp (

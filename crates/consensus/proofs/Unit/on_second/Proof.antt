@@ -1,10 +1,10 @@
-use Rattle.consensus.specs.Step.{onSecond}
+use Rattle.consensus.specs.Step.{secondsWith, onSecond}
 use borrow.Author.Needs.{needs}
 use Rattle.consensus.proofs.Unit.on_second.Statement.{statement}
 use Rattle.consensus.proofs.Unit.on_second.Tie as tie
 
 pub on-second-spec : {M : Type 1} → statement M
-unfolding onSecond
+unfolding onSecond secondsWith
 on-second-spec =
     tie.close
     (tie.spec
@@ -16,6 +16,6 @@ on-second-spec =
     (λ c. simp (
       ← (c .before .before .before .is-marked .ensures),
       c .before .before .if1 .left,
-      ← (c .before .seconds-with .ensures),
+      ← (c .before .marked .ensures),
     )
     (c .count-second .ensures)))

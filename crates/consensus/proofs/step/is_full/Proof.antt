@@ -1,8 +1,6 @@
-use Rattle.consensus.specs.Step.{isFull}
 use borrow.Author.Needs.{needs}
-use Rattle.consensus.proofs.Unit.is_full.Statement.{statement}
-use Rattle.consensus.proofs.Unit.is_full.Tie as tie
+use Rattle.consensus.proofs.step.is_full.Statement.{statement}
+use Rattle.consensus.proofs.step.is_full.Tie as tie
 
 pub is-full-spec : {M : Type 1} → statement M
-unfolding isFull
 is-full-spec = tie.close (tie.spec (λ c κs. search needs) (λ c κs. search needs) (λ c. rw (c .before .quorum .ensures, c .count .ensures)))
