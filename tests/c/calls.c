@@ -10,8 +10,8 @@
 #include "calls_histories.h"
 #include "calls_random.h"
 
-#define DEFAULT_CALLS 7000000ul
-#define DEFAULT_HISTORIES 35000ul
+#define DEFAULT_CALLS 4000000ul
+#define DEFAULT_HISTORIES 20000ul
 
 int main(int argc, char **argv)
 {

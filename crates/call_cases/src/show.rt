@@ -1,8 +1,17 @@
 // Calls of the C entries, each printed with what it answers and what every buffer holds afterwards.
+use tally::limits;
 ghost use Prim.Native.Nat.{_≤_};
 ghost use lib.ListN.{length};
 
 const OUT: i32 = 1;
+
+// Where the CHECKs and the SECONDs of an image begin.
+const CHECKS: usize = limits::LOG_SIZE;
+
+const SECONDS: usize = CHECKS + 2 + 4 * limits::SENDERS;
+
+// A message that lacks a byte.
+pub(crate) const SHORT: usize = limits::MESSAGE_SIZE - 1;
 
 fn byte(b: u8) {
     io::print_hex(OUT, b as u64, 2);
@@ -19,12 +28,12 @@ fn line(label: &[u8], bytes: &[u8], from: usize, to: usize)
     io::write_all(OUT, b"\n");
 }
 
-// Log and image. An image has 20 bytes laid out as a log, the CHECKs and the SECONDs.
-fn buffers(log: &[u8; 20], image: &[u8; 152]) {
-    line(b"  log     ", log, 0, 20);
-    line(b"  image   ", image, 0, 20);
-    line(b"  checks  ", image, 20, 86);
-    line(b"  seconds ", image, 86, 152);
+// Log and image. An image has bytes laid out as a log, the CHECKs and the SECONDs.
+fn buffers(log: &[u8; limits::LOG_SIZE], image: &[u8; limits::IMAGE_SIZE]) {
+    line(b"  log      ", log, 0, limits::LOG_SIZE);
+    line(b"  image    ", image, 0, CHECKS);
+    line(b"  checks   ", image, CHECKS, SECONDS);
+    line(b"  seconds  ", image, SECONDS, limits::IMAGE_SIZE);
 }
 
 pub(crate) fn title(name: &[u8]) {
@@ -34,7 +43,7 @@ pub(crate) fn title(name: &[u8]) {
 
 fn number(name: &[u8], number: u32) {
     title(name);
-    io::write_all(OUT, b"  number  ");
+    io::write_all(OUT, b"  number   ");
     io::print_decimal(OUT, number as u64);
     io::write_all(OUT, b"\n");
 }
@@ -45,8 +54,8 @@ pub(crate) fn start(
     n: u32,
     unit: u32,
     entry: u32,
-    log: &mut [u8; 20],
-    image: &mut [u8; 152],
+    log: &mut [u8; limits::LOG_SIZE],
+    image: &mut [u8; limits::IMAGE_SIZE],
 ) {
     number(
         name,
@@ -55,61 +64,65 @@ pub(crate) fn start(
     buffers(log, image);
 }
 
-pub(crate) fn key_on(name: &[u8], log: &[u8; 20], image: &mut [u8; 152]) {
+pub(crate) fn key_on(
+    name: &[u8],
+    log: &[u8; limits::LOG_SIZE],
+    image: &mut [u8; limits::IMAGE_SIZE],
+) {
     number(name, mileage::mileage_key_on(log, image));
     buffers(log, image);
 }
 
 pub(crate) fn propose(
     name: &[u8],
-    log: &[u8; 20],
-    image: &mut [u8; 152],
+    log: &[u8; limits::LOG_SIZE],
+    image: &mut [u8; limits::IMAGE_SIZE],
     given: u32,
-    out: &mut [u8; 18],
+    out: &mut [u8; limits::MESSAGE_SIZE],
 ) {
     number(name, mileage::mileage_propose(log, image, given, out));
     buffers(log, image);
-    line(b"  out     ", out, 0, 18);
+    line(b"  out      ", out, 0, limits::MESSAGE_SIZE);
 }
 
 fn delivered(
     name: &[u8],
     told: u32,
     decision: u32,
-    log: &[u8; 20],
-    image: &[u8; 152],
-    out: &[u8; 18],
+    log: &[u8; limits::LOG_SIZE],
+    image: &[u8; limits::IMAGE_SIZE],
+    out: &[u8; limits::MESSAGE_SIZE],
 ) {
     number(name, told);
     io::write_all(OUT, b"  decision ");
     io::print_decimal(OUT, decision as u64);
     io::write_all(OUT, b"\n");
     buffers(log, image);
-    line(b"  out     ", out, 0, 18);
+    line(b"  out      ", out, 0, limits::MESSAGE_SIZE);
 }
 
 pub(crate) fn deliver(
     name: &[u8],
-    log: &mut [u8; 20],
-    image: &mut [u8; 152],
-    message: &[u8; 18],
-    out: &mut [u8; 18],
+    log: &mut [u8; limits::LOG_SIZE],
+    image: &mut [u8; limits::IMAGE_SIZE],
+    message: &[u8; limits::MESSAGE_SIZE],
+    out: &mut [u8; limits::MESSAGE_SIZE],
 ) {
     let mut decision: u32 = 0;
     let told = mileage::mileage_deliver(log, image, message, out, &mut decision);
     delivered(name, told, decision, log, image, out);
-    line(b"  message ", message, 0, 18);
+    line(b"  message  ", message, 0, limits::MESSAGE_SIZE);
 }
 
 pub(crate) fn deliver_short(
     name: &[u8],
-    log: &mut [u8; 20],
-    image: &mut [u8; 152],
-    message: &[u8; 17],
-    out: &mut [u8; 18],
+    log: &mut [u8; limits::LOG_SIZE],
+    image: &mut [u8; limits::IMAGE_SIZE],
+    message: &[u8; SHORT],
+    out: &mut [u8; limits::MESSAGE_SIZE],
 ) {
     let mut decision: u32 = 0;
     let told = mileage::mileage_deliver(log, image, message, out, &mut decision);
     delivered(name, told, decision, log, image, out);
-    line(b"  message ", message, 0, 17);
+    line(b"  message  ", message, 0, SHORT);
 }
