@@ -32,7 +32,7 @@ use Rattle.contents.proofs.Same.{Fits, state-fits}
 use Rattle.contents.proofs.Tests.{both-true}
 use Rattle.consensus.specs.Methods.{unless, proposeRows, propose, deliverRows, deliver, keyOff, keyOn}
 use Rattle.consensus.specs.Rows.{Row}
-use Rattle.consensus.specs.Step.{silence, quiet, says, withFirst, withSecond, logWrite, atRound, orIfBlank, sendFirst, proposed, voteKind, voteProposal}
+use Rattle.consensus.specs.Step.{emptyMessage, quiet, says, withFirst, withSecond, logWrite, atRound, orIfBlank, sendFirst, proposed, voteKind, voteProposal}
 use Rattle.consensus.specs.Step.{takeFirst, isFull, takeSecond, checksWith, close, secondsWith, onKind, skip, received, recovered}
 use Rattle.consensus.specs.Units.{WellFormed, unitImage, atLog, downUnit}
 use Rattle.consensus.specs.declared.Answer.{Answer}
@@ -100,7 +100,7 @@ module _ (c : Setup) (X : Message → Type 0) (A : ℕ → Type 0) where
 
   -- an answer without message and decision
   good-silent : (k : Refusal) (u r : ℕ) (x : U.Unit) → Fair c X A x → Kept c X u (x .logged)
-      → Good c X A u r (record { refusal = k; unit = x; message = silence; decision = Blank })
+      → Good c X A u r (record { refusal = k; unit = x; message = emptyMessage; decision = Blank })
   good-silent k u r x f kept = record { fair = f; kept = kept; message = λ h. absurd (h refl); decision = tt }
 
   good-skip : (u r to : ℕ) (x : U.Unit) → Fair c X A x → Kept c X u (x .logged) → Good c X A u r (skip x to)

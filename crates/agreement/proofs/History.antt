@@ -21,7 +21,7 @@ use Rattle.contents.specs.declared.Kind.the-variants.{Empty, First, Check, Seco
 use Rattle.contents.specs.declared.Message.{Message}
 use Rattle.consensus.specs.Methods.{propose, deliver, keyOff, keyOn}
 use Rattle.consensus.specs.Sound.{From, Sound}
-use Rattle.consensus.specs.Step.{silence, fresh, proposed}
+use Rattle.consensus.specs.Step.{emptyMessage, fresh, proposed}
 use Rattle.consensus.specs.Units.{WellFormed, atLog}
 use Rattle.consensus.specs.declared.Answer.{Answer}
 use Rattle.consensus.specs.declared.Unit as U
@@ -162,7 +162,7 @@ module _ (l : Limits) (c : Setup) (w : ContentsWorld) (inv : Inv l c w) where
       new : (a .message .kind ≡ Empty → ⊥) → New l c X C u (a .unit .logged) (a .message)
       new n = let g = good .message n in record { from = go (sound .message); backed = g .0; stands = g .1 }
         where
-          go : (a .message ≡ silence) ⊎ From l (y .settings) (a .message) → From l (settingsOf c u) (a .message)
+          go : (a .message ≡ emptyMessage) ⊎ From l (y .settings) (a .message) → From l (settingsOf c u) (a .message)
           go (inl e) = absurd (n (ap (λ m. m .kind) e))
           go (inr f) = subst (λ s. From l s (a .message)) settings f
 

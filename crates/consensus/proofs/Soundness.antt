@@ -40,7 +40,7 @@ use Rattle.consensus.specs.Methods.{forOther, outOfRange, isSecond, clos
 use Rattle.consensus.specs.Methods.{propose, proposeRows, deliver, deliverRows, keyOff, keyOn}
 use Rattle.consensus.specs.Rows.{row, NoneHolds}
 use Rattle.consensus.specs.Sound.{From, Sound}
-use Rattle.consensus.specs.Step.{quiet, sends, says, silence, withCurrent, withProposal, withFirst, withSecond, withChecks, withSeconds, logWrite}
+use Rattle.consensus.specs.Step.{quiet, sends, says, emptyMessage, withCurrent, withProposal, withFirst, withSecond, withChecks, withSeconds, logWrite}
 use Rattle.consensus.specs.Step.{atRound, clean, fresh, recovered, orIfBlank, sendFirst, proposed, voteKind, voteProposal, takeFirst, isFull}
 use Rattle.consensus.specs.Step.{takeSecond}
 use Rattle.consensus.specs.Step.{checksWith, secondsWith, close, onKind, skip, received}
@@ -58,7 +58,7 @@ use Rattle.consensus.proofs.Votes.{votes, common-vote, next-proposal, d
 
 module _ (l : Limits) (u v : U.Unit) (same : v .settings ≡ u .settings) (p : Parts l v) where
   sound-silent : (k : Refusal) (d : Estimate) → mileageOrBlank l d ≡ true
-      → Sound l u (record { refusal = k; unit = v; message = silence; decision = d })
+      → Sound l u (record { refusal = k; unit = v; message = emptyMessage; decision = d })
   sound-silent k d h = record { unit = well l v p; settings = same; message = inl refl; decision = h }
 
   sound-quiet : Sound l u (quiet v)

@@ -15,7 +15,7 @@ use Rattle.contents.specs.declared.Kind.the-variants.{Empty, First, Check, Seco
 use Rattle.contents.specs.declared.Message.{Message}
 use Rattle.contents.specs.declared.Settings.{Settings}
 use Rattle.consensus.specs.Rows.{Row, row, firstOf}
-use Rattle.consensus.specs.Step.{silence, quiet, isFull, secondsWith, proposed, received, recovered}
+use Rattle.consensus.specs.Step.{emptyMessage, quiet, isFull, secondsWith, proposed, received, recovered}
 use Rattle.consensus.specs.Units.{unitLog, downUnit}
 use Rattle.consensus.specs.declared.Answer.{Answer}
 use Rattle.consensus.specs.declared.Power.{Power}
@@ -62,7 +62,7 @@ closesLast l u m =
 
 -- a refusal changes nothing, sends nothing and decides nothing
 abbrev pub refuses : U.Unit → Refusal → Answer
-refuses u k = record { refusal = k; unit = u; message = silence; decision = Blank }
+refuses u k = record { refusal = k; unit = u; message = emptyMessage; decision = Blank }
 
 -- the first row that holds refuses; where none does, the answer
 unfoldable pub unless : List Row → U.Unit → Answer → Answer
@@ -87,8 +87,8 @@ unfoldable pub deliver : Limits → U.Unit → Message → Answer
 deliver l u m = unless (deliverRows l u m) u (received u m)
 
 -- a delivery to an up unit of a well-formed message that is for it: 7 is the one row left
-unfoldable pub taken : Limits → U.Unit → Message → Answer
-taken l u m = unless (row Refusal.LastRound (closesLast l u m) ∷ []) u (received u m)
+unfoldable pub deliverRead : Limits → U.Unit → Message → Answer
+deliverRead l u m = unless (row Refusal.LastRound (closesLast l u m) ∷ []) u (received u m)
 
 -- key-off (the scope paper's term): the image is lost
 unfoldable pub keyOff : U.Unit → Answer

@@ -7,7 +7,7 @@ use Rattle.contents.specs.Estimates.{mileageOrBlank}
 use Rattle.contents.specs.Messages.{messageOk}
 use Rattle.contents.specs.declared.Message.{Message}
 use Rattle.contents.specs.declared.Settings.{Settings}
-use Rattle.consensus.specs.Step.{silence}
+use Rattle.consensus.specs.Step.{emptyMessage}
 use Rattle.consensus.specs.Units.{WellFormed}
 use Rattle.consensus.specs.declared.Answer.{Answer}
 use Rattle.consensus.specs.declared.Unit as U
@@ -24,5 +24,5 @@ pub record From (l : Limits) (s : Settings) (m : Message) : Type 0 where
 pub record Sound (l : Limits) (u : U.Unit) (a : Answer) : Type 0 where
   pub unit : WellFormed l (a .unit)
   pub settings : a .unit .settings ≡ u .settings
-  pub message : (a .message ≡ silence) ⊎ From l (u .settings) (a .message)
+  pub message : (a .message ≡ emptyMessage) ⊎ From l (u .settings) (a .message)
   pub decision : mileageOrBlank l (a .decision) ≡ true

@@ -28,15 +28,15 @@ use Rattle.consensus.specs.declared.Unit as U
 -- ---- answers
 
 -- an empty message is what a step that sends nothing gives
-abbrev pub silence : Message
-silence = record { kind = Empty; engine = B; n = 0; sender = 0; receiver = 0; entry = 0; round = 0; estimate = Blank; proposal = Blank }
+abbrev pub emptyMessage : Message
+emptyMessage = record { kind = Empty; engine = B; n = 0; sender = 0; receiver = 0; entry = 0; round = 0; estimate = Blank; proposal = Blank }
 
 abbrev pub gives : U.Unit → Message → Estimate → Answer
 gives u m d = record { refusal = Refusal.None; unit = u; message = m; decision = d }
 
 -- nothing is sent, nothing decided
 abbrev pub quiet : U.Unit → Answer
-quiet u = gives u silence Blank
+quiet u = gives u emptyMessage Blank
 
 -- a message carries the sender's round, R's FIRST too (reading 5)
 unfoldable pub says : U.Unit → Kind → ℕ → Estimate → Estimate → Message
@@ -178,7 +178,7 @@ nextProposal R n t own = majority (majorityOf n) (gathered t)
 -- B 40 to 46, R 31 to 33: the round rises by 1, also where no mileage is seen, estimates and marks are blanked; no log write
 unfoldable pub close : U.Unit → Tally → Answer
 close u t =
-    gives (atRound u (u .current .round + 1) (nextProposal (u .settings .engine) (u .settings .n) t (u .current .proposal))) silence
+    gives (atRound u (u .current .round + 1) (nextProposal (u .settings .engine) (u .settings .n) t (u .current .proposal))) emptyMessage
     (decided (common (gathered t)))
 
 -- B 39, R 30

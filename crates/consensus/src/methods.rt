@@ -16,7 +16,7 @@ ghost use mathlib.Core.Bool.{true};
 ghost use Prim.Native.Nat.{_<_};
 ghost use Rattle.tally.specs.Limits.{today, senders};
 ghost use Rattle.contents.specs.Messages.{messageOk};
-ghost use Rattle.consensus.specs.Methods.{isUp, forOther, outOfRange, isSecond, closesLast, refuses, taken};
+ghost use Rattle.consensus.specs.Methods.{isUp, forOther, outOfRange, isSecond, closesLast, refuses, deliverRead};
 ghost use Rattle.consensus.specs.Methods.{propose, deliver, keyOff, keyOn};
 
 pub fn is_up(power: Power) -> bool
@@ -83,15 +83,15 @@ impl Unit {
         Answer {
             refusal,
             unit: self,
-            message: step::silence(),
+            message: step::empty_message(),
             decision: Estimate::Blank,
         }
     }
 
     // A delivery of a message that has been read, and found to be for this unit, which is up: 7 is the one refusal left.
-    pub fn take(self, m: Message) -> Answer
+    pub fn deliver_read(self, m: Message) -> Answer
         requires { ⌜ messageOk today m ≡ true ⌝ }
-        ensures { λ r. ⌜ r ≡ taken today self m ⌝ }
+        ensures { λ r. ⌜ r ≡ deliverRead today self m ⌝ }
     {
         if self.closes_last(m) {
             self.refused(Refusal::LastRound)
@@ -129,7 +129,7 @@ impl Unit {
         if for_other(settings, m) {
             return self.refused(Refusal::Addressee);
         }
-        self.take(m)
+        self.deliver_read(m)
     }
 
     // The unit goes down, and its image is lost.

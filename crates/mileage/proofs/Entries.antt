@@ -1,16 +1,17 @@
 -- What the code of the four calls meets on its way: what is refused, and what is stored. Assumes nothing.
 use Prim.Native.Nat.{ℕ, _<_, _^_}
 use mathlib.Core.Path.{_≡_, refl, sym, ap, _∙_}
-use mathlib.Core.Bool.{Bool, true, false, not, _&&_, _||_}
+use mathlib.Core.Bool.{Bool, true, false, not, cond, _&&_, _||_}
 use mathlib.Core.List.{List, [], _∷_}
 use native.Mathlib.Omega.{arith}
 use lib.Dec.{eqb, ltb}
 use lib.ListN.{length}
-use borrow.Author.Tests.{eq-eqb, lt-ltb, ltb-true}
+use borrow.Author.Tests.{eq-eqb, eqb-true, lt-ltb, ltb-true, not-false}
 use Rattle.tally.specs.Limits.{Limits, Sane, blankCode, logSize, imageSize, messageSize}
 use Rattle.tally.specs.Refusal.{numberOf}
 use Rattle.tally.specs.declared.Refusal.{Refusal}
 use Rattle.tally.proofs.Bounds.{entry-fits, units-fit, everyone-fits}
+use Rattle.tally.proofs.Never.{never}
 use Rattle.contents.specs.Images.{fits}
 use Rattle.contents.specs.Logs.{numbersOk}
 use Rattle.contents.specs.Messages.{messageOk}
@@ -34,16 +35,22 @@ use Rattle.codec.proofs.LogFormat as log
 use Rattle.codec.proofs.MessageFormat as message
 use Rattle.codec.proofs.RoundTrips.{read-fields, refused-number}
 use Rattle.codec.proofs.Steps.{stored-contents}
-use Rattle.consensus.specs.Methods.{forOther, closesLast, unless, taken}
-use Rattle.consensus.specs.Rows.{row, firstOf}
+use Rattle.consensus.specs.Methods.{forOther, closesLast, unless, deliverRead}
+use Rattle.consensus.specs.Rows.{Row, row, firstOf}
 use Rattle.consensus.specs.Step.{received}
-use Rattle.consensus.specs.Units.{unitLog, unitImage, upUnit}
+use Rattle.consensus.specs.Units.{unitLog, unitImage}
 use Rattle.consensus.specs.declared.Answer.{Answer}
 use Rattle.consensus.specs.declared.Unit as U
 use Rattle.consensus.proofs.Answers.{plain-received}
-use Rattle.mileage.specs.Calls.{unlessRow, wrongLength, unitLengths, badLog, badSettings, badImage, badMessage, logBytes, messageBytes}
-use Rattle.mileage.specs.Calls.{settingsNarrow, storedMessage, storedAnswer, deliverCallRows, deliverCall}
+use Rattle.mileage.specs.Calls.{Called, called, unlessRow, wrongLength, unitLengths, badLog, badSettings, badImage, badMessage, logBytes, messageBytes}
+use Rattle.mileage.specs.Calls.{unitOf, deliverCallRows, deliverCall, settingsNarrow, unfit, unitRows, storedMessage, storedAnswer}
 use Rattle.mileage.proofs.Encoded.{accepted}
+
+neither : (a b : Bool) → (a || b) ≡ false → (a ≡ false) × (b ≡ false)
+neither false false e = (refl, refl)
+neither true true e = never (sym e)
+neither true false e = never (sym e)
+neither false true e = never (sym e)
 
 -- ---- the settings of a start
 
@@ -107,9 +114,56 @@ module _ (l : Limits) (sane : Sane l) (bs : List ℕ) where
   message-ok m e = read-fields (messageFormat l) (λ m. Unit) (message.lawful l sane) bs m (sym e) .0
 
 module _ (l : Limits) where
-  -- a buffer has its length before it is cleared too
-  pub size-before : (bs out : List ℕ) → out ≡ cleared l bs → length out ≡ length bs
-  size-before bs out e = ap length e ∙ length-cleared l bs
+  -- ---- lengths
+
+  size : (bs : List ℕ) (k : ℕ) → wrongLength bs k ≡ false → length bs ≡ k
+  size bs k e = eqb-true (length bs) k (not-false _ e)
+
+  pub unit-sizes : (log image : List ℕ) → unitLengths l log image ≡ false → (length log ≡ logSize l) × (length image ≡ imageSize l)
+  unfolding unitLengths
+  unit-sizes log image e =
+      let h = neither (wrongLength log (logSize l)) _ e in (size log (logSize l) (h .0), size image (imageSize l) (h .1))
+
+  pub propose-sizes : (log image out : List ℕ) → (unitLengths l log image || wrongLength out (messageSize l)) ≡ false
+      → (length image ≡ imageSize l) × (length out ≡ messageSize l)
+  propose-sizes log image out e =
+      let h = neither (unitLengths l log image) _ e in (unit-sizes log image (h .0) .1, size out (messageSize l) (h .1))
+
+  -- ---- what a log and an image hold
+
+  module _ (log image : List ℕ) where
+    -- 3 is the one row left of a log that was read
+    pub log-read : (r : Log) → reading 0 r ≡ readLog l log → unfit (readImage l image) r ≡ firstOf (unitRows l log image)
+    unfolding unfit firstOf badLog badImage
+    log-read r e = rw (← e) (go (eqb (readImage l image .number) 0 && fits (readImage l image .contents) r))
+      where
+        go : (b : Bool) → cond b Refusal.None Refusal.Image ≡ cond (not b) Refusal.Image Refusal.None
+        go true = refl
+        go false = refl
+
+    module _ (k : Refusal) (e : k ≡ firstOf (unitRows l log image)) where
+      -- a call on a unit that is refused, whatever its later rows are
+      pub unit-refused : (out : List ℕ) (wrong : Bool) (more : List Row) (ok : Called) → wrong ≡ false → (numberOf k ≡ 0 → ⊥)
+          → called (numberOf k) log image (cleared l out) blankCode
+          ≡ unlessRow l (row Refusal.Length wrong ∷ row Refusal.Log (badLog l log) ∷ row Refusal.Image (badImage l log image) ∷ more) log image out ok
+      unfolding firstOf
+      unit-refused out wrong more ok w n = rw (w, e) (go (badLog l log) (badImage l log image) (λ z. n (ap numberOf e ∙ z)))
+        where
+          go : (a b : Bool) → (numberOf (firstOf (row Refusal.Log a ∷ row Refusal.Image b ∷ [])) ≡ 0 → ⊥)
+              → called (numberOf (firstOf (row Refusal.Log a ∷ row Refusal.Image b ∷ []))) log image (cleared l out) blankCode
+              ≡ unlessRow l (row Refusal.Log a ∷ row Refusal.Image b ∷ more) log image out ok
+          go true b n = refl
+          go false true n = refl
+          go false false n = absurd (n refl)
+
+      pub unit-accepted : numberOf k ≡ 0 → (badLog l log ≡ false) × (badImage l log image ≡ false)
+      unfolding firstOf
+      unit-accepted z = go (badLog l log) (badImage l log image) (sym (ap numberOf e) ∙ z)
+        where
+          go : (a b : Bool) → numberOf (firstOf (row Refusal.Log a ∷ row Refusal.Image b ∷ [])) ≡ 0 → (a ≡ false) × (b ≡ false)
+          go true b z = absurd (omega arith)
+          go false true z = absurd (omega arith)
+          go false false z = (refl, refl)
 
   -- ---- what is stored
 
@@ -132,36 +186,34 @@ module _ (l : Limits) where
 
   -- ---- a delivery
 
-  pub unit-sizes : (log image : List ℕ) → length log ≡ logSize l → length image ≡ imageSize l → unitLengths l log image ≡ false
-  unfolding unitLengths
-  unit-sizes log image a b = rw (eq-eqb (length log) (logSize l) a, eq-eqb (length image) (imageSize l) b)
+  -- where rows 1 to 5 do not hold, the call is the delivery to the unit, stored
+  pub deliver-stored : (log image message out : List ℕ) (m : Message)
+      → (unitLengths l log image || wrongLength message (messageSize l) || wrongLength out (messageSize l)) ≡ false
+      → (badLog l log ≡ false) × (badImage l log image ≡ false) → reading 0 m ≡ readMessage l message
+      → forOther (unitOf l log image .settings) m ≡ false
+      → storedAnswer l (deliverRead l (unitOf l log image) m) log image (cleared l out) blankCode ≡ deliverCall l log image message out
+  unfolding deliverCall deliverCallRows firstOf badMessage storedAnswer deliverRead unless
+  deliver-stored log image message out m right read e for = rw (right, read .0, read .1, ← e, for) (go (closesLast l u m))
+    where
+      u : U.Unit
+      u = unitOf l log image
 
-  module _ (log image message out : List ℕ) (long : length log ≡ logSize l) (wide : length image ≡ imageSize l)
-      (given : length message ≡ messageSize l) (room : length out ≡ messageSize l) where
-    -- row 1 does not hold
-    pub sizes : (unitLengths l log image || wrongLength message (messageSize l) || wrongLength out (messageSize l)) ≡ false
-    sizes = rw (unit-sizes log image long wide, eq-eqb (length message) (messageSize l) given, eq-eqb (length out) (messageSize l) room)
+      a : Answer
+      a = received u m
 
-    -- where rows 1 to 5 do not hold, the call is the delivery to the unit, stored
-    pub deliver-taken : (r : Log) (k : ℕ) (i : Image) (m : Message) → reading 0 r ≡ readLog l log → reading k i ≡ readImage l image
-        → (eqb k 0 && fits i r) ≡ true → reading 0 m ≡ readMessage l message → forOther (r .settings) m ≡ false
-        → deliverCall l log image message out ≡ storedAnswer l (taken l (upUnit r i) m) log image (cleared l out) blankCode
-    unfolding deliverCall deliverCallRows firstOf badLog badImage badMessage storedAnswer taken unless
-    deliver-taken r k i m e f fit g for = rw (sizes, ← e, ← f, fit, ← g, for) (go (closesLast l u m))
-      where
-        u : U.Unit
-        u = upUnit r i
+      h : ((unitLengths l log image || wrongLength message (messageSize l)) ≡ false) × (wrongLength out (messageSize l) ≡ false)
+      h = neither (unitLengths l log image || wrongLength message (messageSize l)) (wrongLength out (messageSize l)) right
 
-        a : Answer
-        a = received u m
+      s : (length log ≡ logSize l) × (length image ≡ imageSize l)
+      s = unit-sizes log image (neither (unitLengths l log image) (wrongLength message (messageSize l)) (h .0) .0)
 
-        go : (b : Bool) → unlessRow l (row Refusal.LastRound b ∷ []) log image out (accepted l a)
-            ≡ storedAnswer l (unless (row Refusal.LastRound b ∷ []) u a) log image (cleared l out) blankCode
-        go true = refl
-        go false =
-            rw (
-              plain-received u m .none,
-              log-stored (unitLog (a .unit)) log long,
-              image-stored (unitImage (a .unit)) image wide,
-              message-stored (a .message .kind) (a .message) out room,
-            )
+      go : (b : Bool) → storedAnswer l (unless (row Refusal.LastRound b ∷ []) u a) log image (cleared l out) blankCode
+          ≡ unlessRow l (row Refusal.LastRound b ∷ []) log image out (accepted l a)
+      go true = refl
+      go false =
+          rw (
+            plain-received u m .none,
+            log-stored (unitLog (a .unit)) log (s .0),
+            image-stored (unitImage (a .unit)) image (s .1),
+            message-stored (a .message .kind) (a .message) out (size out (messageSize l) (h .1)),
+          )

@@ -11,6 +11,7 @@ use Rattle.tally.specs.declared.Engine.the-variants.{B}
 use Rattle.tally.specs.declared.Refusal.{Refusal}
 use Rattle.contents.specs.Images.{fits}
 use Rattle.contents.specs.Logs.{numbersOk}
+use Rattle.contents.specs.declared.Image.{Image}
 use Rattle.contents.specs.declared.Kind.{Kind}
 use Rattle.contents.specs.declared.Kind.the-variants.{Empty, First, Check, Second, Skip}
 use Rattle.contents.specs.declared.Log.{Log}
@@ -168,6 +169,14 @@ pub record Refusing (l : Limits) (rows : List Row) (log image out : List ℕ) (c
 -- the numbers of a start fit the code's types
 unfoldable pub settingsNarrow : ℕ → ℕ → ℕ → ℕ → Bool
 settingsNarrow engine n unit entry = ltb engine (256 ^ 1) && ltb n (256 ^ 1) && ltb unit (256 ^ 1) && ltb entry (256 ^ 2)
+
+-- none where an image was read and fits the log, else 3
+unfoldable pub unfit : Reading Image → Log → Refusal
+unfit i r = cond (eqb (i .number) 0 && fits (i .contents) r) Refusal.None Refusal.Image
+
+-- the rows of a unit's bytes, 2 and 3
+abbrev pub unitRows : Limits → List ℕ → List ℕ → List Row
+unitRows l log image = row Refusal.Log (badLog l log) ∷ row Refusal.Image (badImage l log image) ∷ []
 
 -- an empty message leaves the buffer
 unfoldable pub storedMessage : Limits → Kind → Message → List ℕ → List ℕ

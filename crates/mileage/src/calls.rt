@@ -1,22 +1,29 @@
 // What the calls of a unit test, and what they store.
+use super::UnitRead;
 use codec::ImageRead;
+use codec::LogRead;
+use consensus::Answer;
 use consensus::Unit;
+use contents::Image;
 use contents::Kind;
 use contents::Log;
 use contents::Message;
+use contents::Settings;
+use tally::Engine;
+use tally::Refusal;
+use tally::Tally;
+use tally::limits;
 ghost use mathlib.Core.Path.{_≡_};
-ghost use mathlib.Core.Bool.{true, _&&_};
-ghost use lib.Dec.{eqb};
 ghost use Rattle.tally.specs.Limits.{today};
 ghost use Rattle.tally.specs.Refusal.{numberOf};
-ghost use Rattle.contents.specs.Images.{fits};
-ghost use Rattle.contents.specs.Messages.{messageOk};
+ghost use Rattle.tally.specs.declared.Refusal.{Refusal};
 ghost use Rattle.codec.specs.Formats.{stored};
-ghost use Rattle.codec.specs.Images.{imageFormat};
+ghost use Rattle.codec.specs.Images.{imageFormat, imageReading, readImage};
 ghost use Rattle.codec.specs.Logs.{logFormat};
-ghost use Rattle.consensus.specs.Methods.{taken};
-ghost use Rattle.consensus.specs.Units.{unitLog, unitImage};
-ghost use Rattle.mileage.specs.Calls.{called, settingsNarrow, storedMessage, storedAnswer};
+ghost use Rattle.consensus.specs.Rows.{firstOf};
+ghost use Rattle.consensus.specs.Step.{recovered};
+ghost use Rattle.consensus.specs.Units.{unitLog, unitImage, upUnit, downUnit};
+ghost use Rattle.mileage.specs.Calls.{called, unitLengths, unitOf, settingsNarrow, unfit, unitRows, storedMessage, storedAnswer};
 
 // Do the numbers of a start fit their types?
 pub(crate) fn settings_narrow(engine: u32, n: u32, unit: u32, entry: u32) -> bool
@@ -25,13 +32,78 @@ pub(crate) fn settings_narrow(engine: u32, n: u32, unit: u32, entry: u32) -> boo
     (engine < 256) & (n < 256) & (unit < 256) & (entry < 65536)
 }
 
-// Was an image read, and does it fit the log?
-pub(crate) fn usable(read: ImageRead, log: Log) -> bool
-    ensures { λ r. ⌜ r ≡ (eqb (numberOf (read .refusal)) 0 && fits (read .image) log) ⌝ }
+// Is the length of a unit's log or image wrong?
+pub(crate) fn wrong_lengths(log: &[u8], image: &[u8]) -> bool
+    ensures { λ r. ⌜ r ≡ unitLengths today (now (log .entry)) (now (image .entry)) ⌝ }
+{
+    (log.len() != limits::LOG_SIZE) | (image.len() != limits::IMAGE_SIZE)
+}
+
+// The image that key-on makes of a log.
+pub(crate) fn image_of(log: Log) -> Image
+    ensures { λ r. ⌜ r ≡ unitImage (recovered (downUnit log)) ⌝ }
+{
+    let settings = log.settings;
+    let state = log.state;
+    Image {
+        settings,
+        state,
+        checks: Tally::empty(),
+        seconds: Tally::empty(),
+    }
+}
+
+// None where an image was read and fits its log, else Image.
+fn unfit(read: ImageRead, log: Log) -> Refusal
+    ensures { λ r. ⌜ r ≡ unfit (imageReading read) log ⌝ }
 {
     let refusal = read.refusal;
-    let image = read.image;
-    (tally::number(refusal) == 0) & contents::images::fits(image, log)
+    if tally::number(refusal) != 0 {
+        return Refusal::Image;
+    }
+    if contents::images::fits(read.image, log) {
+        Refusal::None
+    } else {
+        Refusal::Image
+    }
+}
+
+// The unit of a log and of an image's bytes.
+fn unit_at(log: Log, image: &[u8]) -> UnitRead
+    ensures refused { λ r. ⌜ r .refusal ≡ unfit (readImage today (now (image .entry))) log ⌝ }
+    ensures up { λ r. ⌜ r .unit ≡ upUnit log (readImage today (now (image .entry)) .contents) ⌝ }
+{
+    let read = codec::images::read_image(image);
+    UnitRead {
+        refusal: unfit(read, log),
+        unit: Unit::up(log, read.image),
+    }
+}
+
+// What stands in the place of a unit whose log is refused.
+fn no_unit() -> UnitRead
+    ensures { λ r. ⌜ r .refusal ≡ Refusal.Log ⌝ }
+{
+    UnitRead {
+        refusal: Refusal::Log,
+        unit: Unit::fresh(Settings {
+            engine: Engine::B,
+            n: 0,
+            unit: 0,
+            entry: 0,
+        }),
+    }
+}
+
+// Reads the unit that a log and an image hold; beside a refusal stands any unit.
+pub(crate) fn read_unit(log: &[u8], image: &[u8]) -> UnitRead
+    ensures refused { λ r. ⌜ r .refusal ≡ firstOf (unitRows today (now (log .entry)) (now (image .entry))) ⌝ }
+    ensures read { λ r. ⌜ (numberOf (r .refusal) ≡ 0 → r .unit ≡ unitOf today (now (log .entry)) (now (image .entry))) ⌝ }
+{
+    match codec::logs::read_log(log) {
+        LogRead::Read(l) => unit_at(l, image),
+        LogRead::Refused(_) => no_unit(),
+    }
 }
 
 // Stores a unit's log and image.
@@ -57,29 +129,33 @@ pub(crate) fn put_message(m: Message, out: &mut [u8])
     }
 }
 
-// A delivery of a well-formed message for this unit, which is up: 7, or what the step leaves.
-pub(crate) fn take(
-    u: Unit,
-    m: Message,
+// Stores what a proposal answers; no log write.
+pub(crate) fn put_proposal(a: Answer, image: &mut [u8], out: &mut [u8])
+    ensures imaged { λ _. ⌜ now (image .exit) ≡ stored (imageFormat today) (unitImage (a .unit)) (now (image .entry)) ⌝ }
+    ensures sent { λ _. ⌜ now (out .exit) ≡ storedMessage today (a .message .kind) (a .message) (now (out .entry)) ⌝ }
+{
+    put_message(a.message, out);
+    codec::images::store_image(a.unit.image(), image);
+}
+
+// Stores what a delivery answers, unless it refuses.
+pub(crate) fn put_answer(
+    a: Answer,
     log: &mut [u8],
     image: &mut [u8],
     out: &mut [u8],
     decision: &mut u32,
 ) -> u32
-    requires { ⌜ messageOk today m ≡ true ⌝ }
     ensures { λ r. ⌜ called r (now (log .exit)) (now (image .exit)) (now (out .exit)) (now (decision .exit))
-        ≡ storedAnswer today (taken today u m) (now (log .entry)) (now (image .entry)) (now (out .entry)) (now (decision .entry)) ⌝ }
+        ≡ storedAnswer today a (now (log .entry)) (now (image .entry)) (now (out .entry)) (now (decision .entry)) ⌝ }
 {
-    let a = u.take(m);
     let refusal = a.refusal;
-    let unit = a.unit;
-    let sent = a.message;
-    let decided = a.decision;
     let number = tally::number(refusal);
     if number == 0 {
-        put_unit(unit, log, image);
-        put_message(sent, out);
+        let decided = a.decision;
         *decision = codec::codes::code_of(decided);
+        put_message(a.message, out);
+        put_unit(a.unit, log, image);
     }
     number
 }

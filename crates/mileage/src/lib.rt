@@ -22,6 +22,12 @@ ghost use Rattle.codec.specs.Messages.{cleared};
 ghost use Rattle.mileage.specs.Calls.{called, startCall, keyOnCall, proposeCall, deliverCall};
 ghost use Rattle.mileage.specs.Fields.{messageNarrow, writeKnown, readLogCall, writeLogCall, readMessageCall, writeMessageCall};
 
+// A unit holds arrays, so what was read stands beside the refusal.
+pub(crate) struct UnitRead {
+    refusal: Refusal,
+    unit: Unit,
+}
+
 // Reads a log's eight numbers: engine letter, n, unit, entry, round, proposal, first and second estimate.
 #[no_mangle]
 pub extern "C" fn mileage_read_log(log: &[u8], fields: &mut [u32]) -> u32
@@ -134,10 +140,7 @@ pub extern "C" fn mileage_start(
     ensures { λ r. ⌜ called r (now (log .exit)) (now (image .exit)) [] blankCode
         ≡ startCall today engine n unit entry (now (log .entry)) (now (image .entry)) ⌝ }
 {
-    if log.len() != limits::LOG_SIZE {
-        return tally::number(Refusal::Length);
-    }
-    if image.len() != limits::IMAGE_SIZE {
+    if calls::wrong_lengths(log, image) {
         return tally::number(Refusal::Length);
     }
     if !calls::settings_narrow(engine, n, unit, entry) {
@@ -164,16 +167,13 @@ pub extern "C" fn mileage_start(
 pub extern "C" fn mileage_key_on(log: &[u8], image: &mut [u8]) -> u32
     ensures { λ r. ⌜ called r (now (log .entry)) (now (image .exit)) [] blankCode ≡ keyOnCall today (now (log .entry)) (now (image .entry)) ⌝ }
 {
-    if log.len() != limits::LOG_SIZE {
-        return tally::number(Refusal::Length);
-    }
-    if image.len() != limits::IMAGE_SIZE {
+    if calls::wrong_lengths(log, image) {
         return tally::number(Refusal::Length);
     }
     let LogRead::Read(l) = codec::logs::read_log(log) else {
         return tally::number(Refusal::Log);
     };
-    codec::images::store_image(Unit::down(l).recovered().image(), image);
+    codec::images::store_image(calls::image_of(l), image);
     tally::number(Refusal::None)
 }
 
@@ -183,32 +183,21 @@ pub extern "C" fn mileage_propose(log: &[u8], image: &mut [u8], mileage: u32, ou
     ensures { λ r. ⌜ called r (now (log .entry)) (now (image .exit)) (now (out .exit)) blankCode
         ≡ proposeCall today (now (log .entry)) (now (image .entry)) mileage (now (out .entry)) ⌝ }
 {
+    let wrong = calls::wrong_lengths(log, image) | (out.len() != limits::MESSAGE_SIZE);
     codec::messages::clear(out);
-    if log.len() != limits::LOG_SIZE {
+    if wrong {
         return tally::number(Refusal::Length);
     }
-    if image.len() != limits::IMAGE_SIZE {
-        return tally::number(Refusal::Length);
-    }
-    if out.len() != limits::MESSAGE_SIZE {
-        return tally::number(Refusal::Length);
-    }
-    let LogRead::Read(l) = codec::logs::read_log(log) else {
-        return tally::number(Refusal::Log);
-    };
-    let read = codec::images::read_image(image);
-    let i = read.image;
-    if !calls::usable(read, l) {
-        return tally::number(Refusal::Image);
+    let read = calls::read_unit(log, image);
+    let refusal = read.refusal;
+    let number = tally::number(refusal);
+    if number != 0 {
+        return number;
     }
     if methods::out_of_range(mileage) {
         return tally::number(Refusal::Mileage);
     }
-    let a = Unit::up(l, i).proposed(mileage);
-    let u = a.unit;
-    let sent = a.message;
-    codec::images::store_image(u.image(), image);
-    calls::put_message(sent, out);
+    calls::put_proposal(read.unit.proposed(mileage), image, out);
     tally::number(Refusal::None)
 }
 
@@ -225,33 +214,24 @@ pub extern "C" fn mileage_deliver(
         ≡ deliverCall today (now (log .entry)) (now (image .entry)) (now (message .entry)) (now (out .entry)) ⌝ }
 {
     *decision = limits::BLANK;
+    let wrong = calls::wrong_lengths(log, image)
+        | (message.len() != limits::MESSAGE_SIZE)
+        | (out.len() != limits::MESSAGE_SIZE);
     codec::messages::clear(out);
-    if log.len() != limits::LOG_SIZE {
+    if wrong {
         return tally::number(Refusal::Length);
     }
-    if image.len() != limits::IMAGE_SIZE {
-        return tally::number(Refusal::Length);
-    }
-    if message.len() != limits::MESSAGE_SIZE {
-        return tally::number(Refusal::Length);
-    }
-    if out.len() != limits::MESSAGE_SIZE {
-        return tally::number(Refusal::Length);
-    }
-    let LogRead::Read(l) = codec::logs::read_log(log) else {
-        return tally::number(Refusal::Log);
-    };
-    let read = codec::images::read_image(image);
-    let i = read.image;
-    if !calls::usable(read, l) {
-        return tally::number(Refusal::Image);
+    let read = calls::read_unit(log, image);
+    let refusal = read.refusal;
+    let number = tally::number(refusal);
+    if number != 0 {
+        return number;
     }
     let MessageRead::Read(m) = codec::messages::read_message(message) else {
         return tally::number(Refusal::Message);
     };
-    let settings = l.settings;
-    if methods::for_other(settings, m) {
+    if methods::for_other(read.unit.settings, m) {
         return tally::number(Refusal::Addressee);
     }
-    calls::take(Unit::up(l, i), m, log, image, out, decision)
+    calls::put_answer(read.unit.deliver_read(m), log, image, out, decision)
 }

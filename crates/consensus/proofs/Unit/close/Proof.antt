@@ -18,7 +18,7 @@ close-spec =
     (λ c. simp (
       ← (c .before .before .before .before .before .next-proposal .ensures),
       ← (c .before .before .before .before .at-round .ensures),
-      ← (c .before .before .before .silence .ensures),
+      ← (c .before .before .before .empty-message .ensures),
       ← (c .before .before .common .ensures),
       ← (c .before .decided .ensures),
     )

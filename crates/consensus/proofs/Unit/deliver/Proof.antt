@@ -1,13 +1,13 @@
 use mathlib.Core.Path.{sym, _∙_}
 use borrow.Author.Tests.{not-false}
 use Rattle.consensus.specs.Rows.{firstOf}
-use Rattle.consensus.specs.Methods.{deliverRows, unless, taken, deliver}
+use Rattle.consensus.specs.Methods.{deliverRows, unless, deliverRead, deliver}
 use borrow.Author.Needs.{needs}
 use Rattle.consensus.proofs.Unit.deliver.Statement.{statement}
 use Rattle.consensus.proofs.Unit.deliver.Tie as tie
 
 pub deliver-spec : {M : Type 1} → statement M
-unfolding deliver deliverRows unless firstOf taken
+unfolding deliver deliverRows unless firstOf deliverRead
 deliver-spec =
     tie.close
     (tie.spec
@@ -43,4 +43,4 @@ deliver-spec =
       ← (c .before .before .for-other .ensures),
       c .before .if3 .left,
     )
-    (c .take .ensures)))
+    (c .deliver-read .ensures)))

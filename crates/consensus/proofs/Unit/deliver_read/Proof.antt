@@ -2,10 +2,10 @@ use native.Mathlib.Omega.{arith}
 use Rattle.tally.specs.Limits.{today}
 use Rattle.contents.proofs.Facts.{message-facts}
 use Rattle.consensus.specs.Rows.{firstOf}
-use Rattle.consensus.specs.Methods.{taken, unless}
+use Rattle.consensus.specs.Methods.{unless, deliverRead}
 use borrow.Author.Needs.{needs}
-use Rattle.consensus.proofs.Unit.take.Statement.{statement}
-use Rattle.consensus.proofs.Unit.take.Tie as tie
+use Rattle.consensus.proofs.Unit.deliver_read.Statement.{statement}
+use Rattle.consensus.proofs.Unit.deliver_read.Tie as tie
 
 closes-last-requires : tie.Need-closes-last-requires
 closes-last-requires c κs =
@@ -17,9 +17,9 @@ received-requires c κs =
     let m = message-facts today (c .before .before .args .m) (c .before .before .pre) in
     (omega (arith, m .numbers .below, m .numbers .n-high), m .round)
 
-pub take-spec : {M : Type 1} → statement M
-unfolding taken unless firstOf
-take-spec =
+pub deliver-read-spec : {M : Type 1} → statement M
+unfolding deliverRead unless firstOf
+deliver-read-spec =
     tie.close
     (tie.spec
     closes-last-requires
