@@ -19,7 +19,7 @@ use Rattle.consensus.specs.Units.{unitLog, unitImage}
 use Rattle.consensus.specs.declared.Power.{Power}
 use Rattle.consensus.specs.declared.Power.the-variants.{Down, Up}
 use Rattle.mileage.specs.Calls.{Called, Refusing, logBytes}
-use Rattle.mileage.specs.Fields.{readCall, writeCall, readLogCall, writeLogCall, readMessageCall, writeMessageCall}
+use Rattle.fields.specs.Fields.{readCall, writeCall, readLogCall, writeLogCall, readMessageCall, writeMessageCall}
 use Rattle.mileage.proofs.Encoded.{read-log, read-image}
 use Rattle.mileage.proofs.Rows.{start-refusing, key-on-refusing, propose-refusing, deliver-refusing}
 use Rattle.agreement.specs.Bytes.{ByteWorld, Lent, logOf, imageOf, other, Call, starts, keysOn, proposes, delivers, readsLog, readsMessage}

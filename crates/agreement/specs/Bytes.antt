@@ -11,7 +11,7 @@ use Rattle.codec.specs.Codes.{letterOf, estimateOf}
 use Rattle.codec.specs.Formats.{Wrote}
 use Rattle.codec.specs.Messages.{readMessage}
 use Rattle.mileage.specs.Calls.{Called, startCall, keyOnCall, proposeCall, deliverCall}
-use Rattle.mileage.specs.Fields.{readLogCall, writeLogCall, readMessageCall, writeMessageCall}
+use Rattle.fields.specs.Fields.{readLogCall, writeLogCall, readMessageCall, writeMessageCall}
 use Rattle.agreement.specs.Worlds.{Setup, World, change, keep, report, give, decision}
 
 -- a unit of a history: the bytes of its log and, while it is up, of its image

@@ -1,5 +1,3 @@
-pub mod Narrow
-pub mod FieldCalls
 pub mod Rows
 pub mod Entries
 pub mod Encoded

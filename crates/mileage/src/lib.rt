@@ -1,9 +1,7 @@
 // What a C program links: logs and messages as plain numbers and as bytes, and the four calls of a unit.
 mod calls;
-mod fields;
 
 use codec::EngineRead;
-use codec::KindRead;
 use codec::LogRead;
 use codec::MessageRead;
 use consensus::Unit;
@@ -12,15 +10,11 @@ use contents::Settings;
 use tally::Refusal;
 use tally::limits;
 ghost use mathlib.Core.Path.{_≡_};
-ghost use mathlib.Core.Bool.{true};
 ghost use mathlib.Core.List.{[]};
-ghost use lib.ListN.{length};
-ghost use Rattle.tally.specs.Limits.{today, blankCode, messageSize, messageFields};
-ghost use Rattle.tally.specs.Refusal.{numberOf};
+ghost use Rattle.tally.specs.Limits.{today, blankCode};
 ghost use Rattle.codec.specs.Formats.{wrote};
-ghost use Rattle.codec.specs.Messages.{cleared};
+ghost use Rattle.fields.specs.Fields.{readLogCall, writeLogCall, readMessageCall, writeMessageCall};
 ghost use Rattle.mileage.specs.Calls.{called, startCall, keyOnCall, proposeCall, deliverCall};
-ghost use Rattle.mileage.specs.Fields.{messageNarrow, writeKnown, readLogCall, writeLogCall, readMessageCall, writeMessageCall};
 
 // A unit holds arrays, so what was read stands beside the refusal.
 pub(crate) struct UnitRead {
@@ -33,16 +27,7 @@ pub(crate) struct UnitRead {
 pub extern "C" fn mileage_read_log(log: &[u8], fields: &mut [u32]) -> u32
     ensures { λ r. ⌜ wrote r (now (fields .exit)) ≡ readLogCall today (now (log .entry)) (now (fields .entry)) ⌝ }
 {
-    if fields.len() != limits::LOG_FIELDS {
-        return tally::number(Refusal::Length);
-    }
-    match codec::logs::read_log(log) {
-        LogRead::Read(l) => {
-            fields::put_log(l, fields);
-            tally::number(Refusal::None)
-        }
-        LogRead::Refused(k) => tally::number(k),
-    }
+    fields::read_log(log, fields)
 }
 
 // Writes a log of its eight numbers.
@@ -50,19 +35,7 @@ pub extern "C" fn mileage_read_log(log: &[u8], fields: &mut [u32]) -> u32
 pub extern "C" fn mileage_write_log(fields: &[u32], log: &mut [u8]) -> u32
     ensures { λ r. ⌜ wrote r (now (log .exit)) ≡ writeLogCall today (now (fields .entry)) (now (log .entry)) ⌝ }
 {
-    if fields.len() != limits::LOG_FIELDS {
-        return tally::number(Refusal::Length);
-    }
-    if log.len() != limits::LOG_SIZE {
-        return tally::number(Refusal::Length);
-    }
-    if !fields::log_narrow(fields) {
-        return tally::number(Refusal::Log);
-    }
-    match codec::codes::engine_of(fields[0] as u8) {
-        EngineRead::Is(e) => tally::number(codec::logs::write_log(fields::log_of(e, fields), log)),
-        EngineRead::Unknown => tally::number(Refusal::Log),
-    }
+    fields::write_log(fields, log)
 }
 
 // Reads a message's nine numbers: kind and engine letter, n, sender, receiver, entry, round, estimate, proposal.
@@ -70,42 +43,7 @@ pub extern "C" fn mileage_write_log(fields: &[u32], log: &mut [u8]) -> u32
 pub extern "C" fn mileage_read_message(message: &[u8], fields: &mut [u32]) -> u32
     ensures { λ r. ⌜ wrote r (now (fields .exit)) ≡ readMessageCall today (now (message .entry)) (now (fields .entry)) ⌝ }
 {
-    if fields.len() != limits::MESSAGE_FIELDS {
-        return tally::number(Refusal::Length);
-    }
-    match codec::messages::read_message(message) {
-        MessageRead::Read(m) => {
-            fields::put_message(m, fields);
-            tally::number(Refusal::None)
-        }
-        MessageRead::Refused(k) => tally::number(k),
-    }
-}
-
-// A refused message write leaves an empty message in a buffer of its length; another keeps its bytes.
-fn refuse(why: Refusal, message: &mut [u8]) -> u32
-    ensures { λ r. ⌜ wrote r (now (message .exit)) ≡ wrote (numberOf why) (cleared today (now (message .entry))) ⌝ }
-{
-    codec::messages::clear(message);
-    tally::number(why)
-}
-
-// Writes a message whose letters have been looked up.
-fn write_known(kind: KindRead, engine: EngineRead, fields: &[u32], message: &mut [u8]) -> u32
-    requires { ⌜ (length (now fields) ≡ messageFields) × (messageNarrow today (now fields) ≡ true) ⌝ }
-    requires { ⌜ length (now message) ≡ messageSize today ⌝ }
-    ensures { λ r. ⌜ wrote r (now (message .exit)) ≡ writeKnown today kind engine (now (fields .entry)) (now (message .entry)) ⌝ }
-{
-    match kind {
-        KindRead::Is(k) => match engine {
-            EngineRead::Is(e) => tally::number(codec::messages::write_message(
-                fields::message_of(k, e, fields),
-                message,
-            )),
-            EngineRead::Unknown => refuse(Refusal::Message, message),
-        },
-        KindRead::Unknown => refuse(Refusal::Message, message),
-    }
+    fields::read_message(message, fields)
 }
 
 // Writes a message of its nine numbers.
@@ -113,18 +51,7 @@ fn write_known(kind: KindRead, engine: EngineRead, fields: &[u32], message: &mut
 pub extern "C" fn mileage_write_message(fields: &[u32], message: &mut [u8]) -> u32
     ensures { λ r. ⌜ wrote r (now (message .exit)) ≡ writeMessageCall today (now (fields .entry)) (now (message .entry)) ⌝ }
 {
-    if fields.len() != limits::MESSAGE_FIELDS {
-        return refuse(Refusal::Length, message);
-    }
-    if message.len() != limits::MESSAGE_SIZE {
-        return refuse(Refusal::Length, message);
-    }
-    if !fields::message_narrow(fields) {
-        return refuse(Refusal::Message, message);
-    }
-    let kind = codec::codes::kind_of(fields[0] as u8);
-    let engine = codec::codes::engine_of(fields[1] as u8);
-    write_known(kind, engine, fields, message)
+    fields::write_message(fields, message)
 }
 
 // Starts a unit: writes its log and its image, and reads neither. The engine is its letter's number.

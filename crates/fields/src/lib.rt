@@ -1,0 +1,112 @@
+// Logs and messages between plain numbers and bytes, for the C entries.
+mod numbers;
+
+use codec::EngineRead;
+use codec::KindRead;
+use codec::LogRead;
+use codec::MessageRead;
+use tally::Refusal;
+use tally::limits;
+ghost use mathlib.Core.Path.{_≡_};
+ghost use mathlib.Core.Bool.{true};
+ghost use lib.ListN.{length};
+ghost use Rattle.tally.specs.Limits.{today, messageSize, messageFields};
+ghost use Rattle.tally.specs.Refusal.{numberOf};
+ghost use Rattle.codec.specs.Formats.{wrote};
+ghost use Rattle.codec.specs.Messages.{cleared};
+ghost use Rattle.fields.specs.Fields.{messageNarrow, writeKnown, readLogCall, writeLogCall, readMessageCall, writeMessageCall};
+
+// Reads a log's eight numbers: engine letter, n, unit, entry, round, proposal, first and second estimate.
+pub fn read_log(log: &[u8], fields: &mut [u32]) -> u32
+    ensures { λ r. ⌜ wrote r (now (fields .exit)) ≡ readLogCall today (now (log .entry)) (now (fields .entry)) ⌝ }
+{
+    if fields.len() != limits::LOG_FIELDS {
+        return tally::number(Refusal::Length);
+    }
+    match codec::logs::read_log(log) {
+        LogRead::Read(l) => {
+            numbers::put_log(l, fields);
+            tally::number(Refusal::None)
+        }
+        LogRead::Refused(k) => tally::number(k),
+    }
+}
+
+// Writes a log of its eight numbers.
+pub fn write_log(fields: &[u32], log: &mut [u8]) -> u32
+    ensures { λ r. ⌜ wrote r (now (log .exit)) ≡ writeLogCall today (now (fields .entry)) (now (log .entry)) ⌝ }
+{
+    if fields.len() != limits::LOG_FIELDS {
+        return tally::number(Refusal::Length);
+    }
+    if log.len() != limits::LOG_SIZE {
+        return tally::number(Refusal::Length);
+    }
+    if !numbers::log_narrow(fields) {
+        return tally::number(Refusal::Log);
+    }
+    match codec::codes::engine_of(fields[0] as u8) {
+        EngineRead::Is(e) => tally::number(codec::logs::write_log(numbers::log_of(e, fields), log)),
+        EngineRead::Unknown => tally::number(Refusal::Log),
+    }
+}
+
+// Reads a message's nine numbers: kind and engine letter, n, sender, receiver, entry, round, estimate, proposal.
+pub fn read_message(message: &[u8], fields: &mut [u32]) -> u32
+    ensures { λ r. ⌜ wrote r (now (fields .exit)) ≡ readMessageCall today (now (message .entry)) (now (fields .entry)) ⌝ }
+{
+    if fields.len() != limits::MESSAGE_FIELDS {
+        return tally::number(Refusal::Length);
+    }
+    match codec::messages::read_message(message) {
+        MessageRead::Read(m) => {
+            numbers::put_message(m, fields);
+            tally::number(Refusal::None)
+        }
+        MessageRead::Refused(k) => tally::number(k),
+    }
+}
+
+// A refused message write leaves an empty message in a buffer of its length; another keeps its bytes.
+fn refuse(why: Refusal, message: &mut [u8]) -> u32
+    ensures { λ r. ⌜ wrote r (now (message .exit)) ≡ wrote (numberOf why) (cleared today (now (message .entry))) ⌝ }
+{
+    codec::messages::clear(message);
+    tally::number(why)
+}
+
+// Writes a message whose letters have been looked up.
+fn write_known(kind: KindRead, engine: EngineRead, fields: &[u32], message: &mut [u8]) -> u32
+    requires { ⌜ (length (now fields) ≡ messageFields) × (messageNarrow today (now fields) ≡ true) ⌝ }
+    requires { ⌜ length (now message) ≡ messageSize today ⌝ }
+    ensures { λ r. ⌜ wrote r (now (message .exit)) ≡ writeKnown today kind engine (now (fields .entry)) (now (message .entry)) ⌝ }
+{
+    match kind {
+        KindRead::Is(k) => match engine {
+            EngineRead::Is(e) => tally::number(codec::messages::write_message(
+                numbers::message_of(k, e, fields),
+                message,
+            )),
+            EngineRead::Unknown => refuse(Refusal::Message, message),
+        },
+        KindRead::Unknown => refuse(Refusal::Message, message),
+    }
+}
+
+// Writes a message of its nine numbers.
+pub fn write_message(fields: &[u32], message: &mut [u8]) -> u32
+    ensures { λ r. ⌜ wrote r (now (message .exit)) ≡ writeMessageCall today (now (fields .entry)) (now (message .entry)) ⌝ }
+{
+    if fields.len() != limits::MESSAGE_FIELDS {
+        return refuse(Refusal::Length, message);
+    }
+    if message.len() != limits::MESSAGE_SIZE {
+        return refuse(Refusal::Length, message);
+    }
+    if !numbers::message_narrow(fields) {
+        return refuse(Refusal::Message, message);
+    }
+    let kind = codec::codes::kind_of(fields[0] as u8);
+    let engine = codec::codes::engine_of(fields[1] as u8);
+    write_known(kind, engine, fields, message)
+}
