@@ -50,23 +50,36 @@ fn put_message(
     mileage::mileage_write_message(&fields, message);
 }
 
+// The listing's last events, at unit 2: the CHECKs of units 0 and 1 and the SECOND of unit 1 come to it, then its own SECOND.
+fn unit_2(
+    check0: &[u8; limits::MESSAGE_SIZE],
+    check1: &[u8; limits::MESSAGE_SIZE],
+    second1: &[u8; limits::MESSAGE_SIZE],
+) {
+    let mut log = [JUNK; limits::LOG_SIZE];
+    let mut image = [JUNK; limits::IMAGE_SIZE];
+    let mut second2 = [JUNK; limits::MESSAGE_SIZE];
+    let mut out = [JUNK; limits::MESSAGE_SIZE];
+    show::start(b"B,3,7 unit 2", B, 3, 2, 7, &mut log, &mut image);
+    show::deliver(b"D,2,3", &mut log, &mut image, second1, &mut out);
+    show::deliver(b"D,2,1", &mut log, &mut image, check0, &mut out);
+    show::deliver(b"D,2,2", &mut log, &mut image, check1, &mut second2);
+    show::deliver(b"D,2,4", &mut log, &mut image, &second2, &mut out);
+}
+
 // The listing. A cut delivery (W) is the call, and then the key goes off: its log stays, its image and message are lost.
 fn listing() {
     let mut log0 = [JUNK; limits::LOG_SIZE];
     let mut log1 = [JUNK; limits::LOG_SIZE];
-    let mut log2 = [JUNK; limits::LOG_SIZE];
     let mut image0 = [JUNK; limits::IMAGE_SIZE];
     let mut image1 = [JUNK; limits::IMAGE_SIZE];
-    let mut image2 = [JUNK; limits::IMAGE_SIZE];
     let mut m0 = [JUNK; limits::MESSAGE_SIZE];
     let mut m1 = [JUNK; limits::MESSAGE_SIZE];
     let mut m2 = [JUNK; limits::MESSAGE_SIZE];
     let mut m3 = [JUNK; limits::MESSAGE_SIZE];
-    let mut m4 = [JUNK; limits::MESSAGE_SIZE];
     let mut out = [JUNK; limits::MESSAGE_SIZE];
     show::start(b"B,3,7 unit 0", B, 3, 0, 7, &mut log0, &mut image0);
     show::start(b"B,3,7 unit 1", B, 3, 1, 7, &mut log1, &mut image1);
-    show::start(b"B,3,7 unit 2", B, 3, 2, 7, &mut log2, &mut image2);
     show::propose(b"P,0,412077", &log0, &mut image0, 412077, &mut m0);
     show::deliver(b"D,0,0", &mut log0, &mut image0, &m0, &mut m1);
     show::deliver(b"D,1,0", &mut log1, &mut image1, &m0, &mut m2);
@@ -77,10 +90,7 @@ fn listing() {
     image0 = [JUNK; limits::IMAGE_SIZE];
     show::title(b"D,0,3: the unit is down, there is no call");
     show::key_on(b"U,0", &log0, &mut image0);
-    show::deliver(b"D,2,3", &mut log2, &mut image2, &m3, &mut out);
-    show::deliver(b"D,2,1", &mut log2, &mut image2, &m1, &mut out);
-    show::deliver(b"D,2,2", &mut log2, &mut image2, &m2, &mut m4);
-    show::deliver(b"D,2,4", &mut log2, &mut image2, &m4, &mut out);
+    unit_2(&m1, &m2, &m3);
 }
 
 // The table's examples of 1 to 6, 9,999,999 beside 10,000,000. An output buffer that a refusal must clear holds other bytes before.
