@@ -3,7 +3,8 @@
  * and reading and writing logs and messages.
  *
  * A slice is passed as a pointer and then its length. The length counts elements: bytes of a log, an image or a message,
- * numbers of a fields buffer. The buffers of one call must not overlap.
+ * numbers of a fields buffer. Each pointer is valid for its length, `decision` for one number; the buffers of one call and
+ * the decision must not overlap.
  *
  * Every call answers with a number: MILEAGE_ACCEPTED, or why it was turned down. Lengths are looked at first; of several
  * reasons the lowest number is given. A call keeps nothing of its own: all that a unit is lies in its log and its image.
@@ -51,17 +52,20 @@
 
 /*
  * A unit of one entry has a log, kept in permanent memory, and an image, kept in working memory and lost at key-off.
- * Firmware lends both to every call and looks into neither. It does this:
+ * Firmware lends both to every call and need not understand either. It does this:
  *
- * - Once for each entry: mileage_start, and the log goes to permanent memory. Never again for that entry, or the unit
- *   forgets what it has promised the others.
+ * - Once for each entry, before any other call: mileage_start, with the same engine, n and entry in all units and a unit
+ *   number of its own in each; the log goes to permanent memory. Never again for that entry, or the unit forgets what it
+ *   has promised the others.
  * - After each key-on, before any other call: mileage_key_on, with the log from permanent memory.
  * - To propose a mileage, or to try again after some time without a decision: mileage_propose. The log stays as it is.
- * - For each message from the bus, its own messages to everyone too: mileage_deliver. If the log has changed, the whole
- *   log goes to permanent memory, and only then does the message in the output buffer leave. It is written as one piece:
- *   after a key-off the old log or the new one stands, never a mix.
+ * - For each message from the bus, its own messages to everyone too: mileage_deliver. If the log has changed
+ *   (its 20 bytes differ from those before the call), the whole log goes to permanent memory, and only then does the
+ *   message in the output buffer leave. It is written as one piece: after a key-off the old log or the new one stands,
+ *   never a mix. Writing it every time is right too.
  * - A message of 18 zero bytes in the output buffer is no message. Any other goes to all units, its sender too, or, if
- *   its kind is 'K', to the one unit that its byte 4 names. A message may be lost, late or delivered more than once.
+ *   its kind is 'K', to the one unit that its byte 4, counted from 0, names. A message may be lost, late or delivered
+ *   more than once, but never altered.
  * - After a refusal nothing needs to be written or sent, and the unit goes on from the same log and image.
  *
  * After a refusal log and image are as they were, and an output buffer of 18 bytes is all zeros; one of another length
@@ -89,8 +93,8 @@ uint32_t mileage_propose(const uint8_t *log, size_t log_len, uint8_t *image, siz
 /*
  * Delivers a message to the unit. Reads log, image and message; writes the image, the log where the step logs, and to
  * the output buffer the message that goes out, or the empty one. `decision` is always written: the mileage decided, or
- * MILEAGE_BLANK where there is none, on a refusal too. A unit may report its decision again, always the same mileage.
- * Answers 0, 1, 2, 3, 4, 5 or 7.
+ * MILEAGE_BLANK where there is none, on a refusal too. A unit may report its decision again, always the same mileage
+ * as long as all units are used as above. Answers 0, 1, 2, 3, 4, 5 or 7.
  */
 uint32_t mileage_deliver(uint8_t *log, size_t log_len, uint8_t *image, size_t image_len,
                          const uint8_t *message, size_t message_len, uint8_t *out, size_t out_len, uint32_t *decision);
@@ -99,7 +103,7 @@ uint32_t mileage_deliver(uint8_t *log, size_t log_len, uint8_t *image, size_t im
  * The fields of a log, in this order: engine letter, n, unit, entry, round, proposal, first estimate, second estimate.
  * Reading: a refusal leaves the fields as they were.
  * Writing: a refusal leaves the log as it was. Fields that reading would refuse are refused, and so is a number too
- * large for its bytes.
+ * large for its bytes. Both answer 0, 1 or 2.
  */
 uint32_t mileage_read_log(const uint8_t *log, size_t log_len, uint32_t *fields, size_t fields_len);
 uint32_t mileage_write_log(const uint32_t *fields, size_t fields_len, uint8_t *log, size_t log_len);
@@ -109,7 +113,7 @@ uint32_t mileage_write_log(const uint32_t *fields, size_t fields_len, uint8_t *l
  * proposal. Reading one from the bus tells its entry, and so which log and image to lend.
  * Reading: a refusal leaves the fields as they were. The empty message, 18 zero bytes, is refused as malformed.
  * Writing: a refusal leaves a message buffer of 18 bytes all zeros, and one of another length as it was. Fields that
- * reading would refuse are refused, and so is a number too large for its bytes.
+ * reading would refuse are refused, and so is a number too large for its bytes. Both answer 0, 1 or 4.
  */
 uint32_t mileage_read_message(const uint8_t *message, size_t message_len, uint32_t *fields, size_t fields_len);
 uint32_t mileage_write_message(const uint32_t *fields, size_t fields_len, uint8_t *message, size_t message_len);

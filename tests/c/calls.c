@@ -1,8 +1,9 @@
 /*
  * The four entries of a unit (start, key-on, propose, deliver), called as firmware calls them.
  *
- * First rows made by hand after the scope paper, then random calls, then histories. Looked at each time: the number,
- * the decision, every byte of every buffer, and the guards before and behind them.
+ * First rows made by hand after the scope paper and its listing, then two histories to the last round, every byte of
+ * good calls, random calls, and histories. Looked at each time: the number, the decision, every byte of every buffer,
+ * and the guards before and behind them.
  *
  * Arguments: the number of random calls, then of histories; 0 leaves that part out. Exit 0: all agreed.
  */

@@ -50,7 +50,23 @@ fn put_message(
     mileage::mileage_write_message(&fields, message);
 }
 
-// The listing's last events, at unit 2: the CHECKs of units 0 and 1 and the SECOND of unit 1 come to it, then its own SECOND.
+// The listing's events at unit 1: unit 0's FIRST and CHECK come to it, then its own CHECK, which it answers with SECOND.
+fn unit_1(
+    first: &[u8; limits::MESSAGE_SIZE],
+    check0: &[u8; limits::MESSAGE_SIZE],
+    check1: &mut [u8; limits::MESSAGE_SIZE],
+    second1: &mut [u8; limits::MESSAGE_SIZE],
+) {
+    let mut log = [JUNK; limits::LOG_SIZE];
+    let mut image = [JUNK; limits::IMAGE_SIZE];
+    let mut out = [JUNK; limits::MESSAGE_SIZE];
+    show::start(b"B,3,7 unit 1", B, 3, 1, 7, &mut log, &mut image);
+    show::deliver(b"D,1,0", &mut log, &mut image, first, check1);
+    show::deliver(b"D,1,1", &mut log, &mut image, check0, &mut out);
+    show::deliver(b"D,1,2", &mut log, &mut image, check1, second1);
+}
+
+// Its last events, at unit 2: the SECOND of unit 1 and the CHECKs of units 0 and 1 come to it, then its own SECOND.
 fn unit_2(
     check0: &[u8; limits::MESSAGE_SIZE],
     check1: &[u8; limits::MESSAGE_SIZE],
@@ -67,42 +83,37 @@ fn unit_2(
     show::deliver(b"D,2,4", &mut log, &mut image, &second2, &mut out);
 }
 
-// The listing. A cut delivery (W) is the call, and then the key goes off: its log stays, its image and message are lost.
+// The listing, its events at unit 0 here. A cut delivery (W) is the call, and then the key goes off: its log stays, its image and message are
+// lost.
 fn listing() {
-    let mut log0 = [JUNK; limits::LOG_SIZE];
-    let mut log1 = [JUNK; limits::LOG_SIZE];
-    let mut image0 = [JUNK; limits::IMAGE_SIZE];
-    let mut image1 = [JUNK; limits::IMAGE_SIZE];
-    let mut m0 = [JUNK; limits::MESSAGE_SIZE];
-    let mut m1 = [JUNK; limits::MESSAGE_SIZE];
-    let mut m2 = [JUNK; limits::MESSAGE_SIZE];
-    let mut m3 = [JUNK; limits::MESSAGE_SIZE];
+    let mut log = [JUNK; limits::LOG_SIZE];
+    let mut image = [JUNK; limits::IMAGE_SIZE];
+    let mut first = [JUNK; limits::MESSAGE_SIZE];
+    let mut check0 = [JUNK; limits::MESSAGE_SIZE];
+    let mut check1 = [JUNK; limits::MESSAGE_SIZE];
+    let mut second1 = [JUNK; limits::MESSAGE_SIZE];
     let mut out = [JUNK; limits::MESSAGE_SIZE];
-    show::start(b"B,3,7 unit 0", B, 3, 0, 7, &mut log0, &mut image0);
-    show::start(b"B,3,7 unit 1", B, 3, 1, 7, &mut log1, &mut image1);
-    show::propose(b"P,0,412077", &log0, &mut image0, 412077, &mut m0);
-    show::deliver(b"D,0,0", &mut log0, &mut image0, &m0, &mut m1);
-    show::deliver(b"D,1,0", &mut log1, &mut image1, &m0, &mut m2);
-    show::deliver(b"D,1,1", &mut log1, &mut image1, &m1, &mut out);
-    show::deliver(b"D,1,2", &mut log1, &mut image1, &m2, &mut m3);
-    show::deliver(b"D,0,1", &mut log0, &mut image0, &m1, &mut out);
-    show::deliver(b"W,0,2", &mut log0, &mut image0, &m2, &mut out);
-    image0 = [JUNK; limits::IMAGE_SIZE];
+    show::start(b"B,3,7 unit 0", B, 3, 0, 7, &mut log, &mut image);
+    show::propose(b"P,0,412077", &log, &mut image, 412077, &mut first);
+    show::deliver(b"D,0,0", &mut log, &mut image, &first, &mut check0);
+    unit_1(&first, &check0, &mut check1, &mut second1);
+    show::deliver(b"D,0,1", &mut log, &mut image, &check0, &mut out);
+    show::deliver(b"W,0,2", &mut log, &mut image, &check1, &mut out);
+    image = [JUNK; limits::IMAGE_SIZE];
     show::title(b"D,0,3: the unit is down, there is no call");
-    show::key_on(b"U,0", &log0, &mut image0);
-    unit_2(&m1, &m2, &m3);
+    show::key_on(b"U,0", &log, &mut image);
+    unit_2(&check0, &check1, &second1);
 }
 
-// The table's examples of 1 to 6, 9,999,999 beside 10,000,000. An output buffer that a refusal must clear holds other bytes before.
+// The table's examples of 1, 2, 4 and 5. An output buffer holds other bytes before.
 fn examples() {
     let mut log = [JUNK; limits::LOG_SIZE];
     let mut image = [JUNK; limits::IMAGE_SIZE];
     let mut m = [JUNK; limits::MESSAGE_SIZE];
     let mut out = [JUNK; limits::MESSAGE_SIZE];
+    let short = [70u8, 66, 3, 0, 255, 0, 0, 7, 0, 0, 0, 0, 0, 5, 0, 0, 0];
     show::start(b"2: n = 2", B, 2, 0, 7, &mut log, &mut image);
     show::start(b"unit 2 of 3", B, 3, 2, 7, &mut log, &mut image);
-    put_message(F, 0, EVERYONE, 0, 5, 5, &mut m);
-    let short = [70u8, 66, 3, 0, 255, 0, 0, 7, 0, 0, 0, 0, 0, 5, 0, 0, 0];
     show::deliver_short(
         b"1: message of 17 bytes",
         &mut log,
@@ -110,6 +121,7 @@ fn examples() {
         &short,
         &mut out,
     );
+    put_message(F, 0, EVERYONE, 0, 5, 5, &mut m);
     m[0] = b'Z';
     out = [JUNK; limits::MESSAGE_SIZE];
     show::deliver(b"4: kind letter Z", &mut log, &mut image, &m, &mut out);
@@ -122,7 +134,15 @@ fn examples() {
         &m,
         &mut out,
     );
-    out = [JUNK; limits::MESSAGE_SIZE];
+}
+
+// Of 6, and 9,999,999 beside it.
+fn mileages() {
+    let mut log = [JUNK; limits::LOG_SIZE];
+    let mut image = [JUNK; limits::IMAGE_SIZE];
+    let mut out = [JUNK; limits::MESSAGE_SIZE];
+    put_log(2, 0, &mut log);
+    show::key_on(b"unit 2 at round 0", &log, &mut image);
     show::propose(
         b"6: 10,000,000",
         &log,
@@ -137,11 +157,18 @@ fn examples() {
         limits::MAX_MILEAGE,
         &mut out,
     );
+}
+
+// Of 3.
+fn image_behind() {
+    let mut log = [JUNK; limits::LOG_SIZE];
+    let mut image = [JUNK; limits::IMAGE_SIZE];
+    let mut m = [JUNK; limits::MESSAGE_SIZE];
+    let mut out = [JUNK; limits::MESSAGE_SIZE];
     put_log(2, 3, &mut log);
     show::key_on(b"unit 2 at round 3", &log, &mut image);
     put_log(2, 4, &mut log);
     put_message(F, 0, EVERYONE, 4, 5, 5, &mut m);
-    out = [JUNK; limits::MESSAGE_SIZE];
     show::deliver(
         b"3: log at round 4, image at 3",
         &mut log,
@@ -151,60 +178,61 @@ fn examples() {
     );
 }
 
-// Round 9,998 is closed, with a decision; round 9,999 is not.
+// A SECOND with mileage 5.
+fn second(
+    name: &[u8],
+    sender: u32,
+    round: u32,
+    log: &mut [u8; limits::LOG_SIZE],
+    image: &mut [u8; limits::IMAGE_SIZE],
+) {
+    let mut m = [JUNK; limits::MESSAGE_SIZE];
+    let mut out = [JUNK; limits::MESSAGE_SIZE];
+    put_message(S, sender, EVERYONE, round, 5, limits::BLANK, &mut m);
+    show::deliver(name, log, image, &m, &mut out);
+}
+
+// Round 9,998 is closed, with a decision; round 9,999 is not: the example of 7.
 fn last_rounds() {
     let mut log = [JUNK; limits::LOG_SIZE];
     let mut image = [JUNK; limits::IMAGE_SIZE];
-    let mut m = [JUNK; limits::MESSAGE_SIZE];
-    let mut out = [JUNK; limits::MESSAGE_SIZE];
     put_log(0, BEFORE_LAST, &mut log);
     show::key_on(b"unit 0 at round 9,998", &log, &mut image);
-    put_message(S, 1, EVERYONE, BEFORE_LAST, 5, limits::BLANK, &mut m);
-    show::deliver(
+    second(
         b"SECOND of unit 1 in 9,998",
+        1,
+        BEFORE_LAST,
         &mut log,
         &mut image,
-        &m,
-        &mut out,
     );
-    put_message(S, 2, EVERYONE, BEFORE_LAST, 5, limits::BLANK, &mut m);
-    show::deliver(
+    second(
         b"SECOND of unit 2 in 9,998",
+        2,
+        BEFORE_LAST,
         &mut log,
         &mut image,
-        &m,
-        &mut out,
     );
-    put_message(S, 1, EVERYONE, LAST, 5, limits::BLANK, &mut m);
-    show::deliver(
-        b"SECOND of unit 1 in 9,999",
-        &mut log,
-        &mut image,
-        &m,
-        &mut out,
-    );
-    put_message(S, 2, EVERYONE, LAST, 5, limits::BLANK, &mut m);
-    out = [JUNK; limits::MESSAGE_SIZE];
-    show::deliver(
+    second(b"SECOND of unit 1 in 9,999", 1, LAST, &mut log, &mut image);
+    second(
         b"7: n = 3, B, one mark there, another comes",
+        2,
+        LAST,
         &mut log,
         &mut image,
-        &m,
-        &mut out,
     );
-    put_message(S, 1, EVERYONE, LAST, 9, limits::BLANK, &mut m);
-    out = [JUNK; limits::MESSAGE_SIZE];
-    show::deliver(
+    second(
         b"SECOND of unit 1 in 9,999 again",
+        1,
+        LAST,
         &mut log,
         &mut image,
-        &m,
-        &mut out,
     );
 }
 
 fn main() {
     listing();
     examples();
+    mileages();
+    image_behind();
     last_rounds();
 }

@@ -34,7 +34,7 @@ pack [] vs = []
 pack (w ∷ ws) [] = []
 pack (w ∷ ws) (v ∷ vs) = bytesOf w v ++ pack ws vs
 
--- ---- what helpers of the code promise, and no public contract says
+-- ---- what inner functions promise, and no public contract says
 
 -- bs after each number has been stored in turn, the first at o
 abbrev pub packInto : List ℕ → ℕ → List ℕ → List ℕ → List ℕ

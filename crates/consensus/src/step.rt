@@ -320,7 +320,7 @@ impl Unit {
     }
 
     // ---- SECOND
-    // A mileage that all sent is decided; the round rises by 1, estimates and marks are blanked.
+    // A mileage that all gathered hold is decided; the round rises by 1, estimates and marks are blanked.
     fn close(self, t: Tally) -> Answer
         requires { ⌜ self .current .round ≤ today .lastRound ⌝ }
         ensures { λ r. ⌜ r ≡ close self t ⌝ }

@@ -53,7 +53,7 @@ pub record FieldTrip (fields size : ℕ) (read write : List ℕ → List ℕ →
   -- whatever is read is written back to the same bytes
   pub same : (bs fs out : List ℕ) → Bytes bs → read bs fs .number ≡ 0 → length out ≡ size → write (read bs fs .out) out ≡ wrote 0 bs
 
--- ---- what helpers of the code promise, and no public contract says
+-- ---- what inner functions promise, and no public contract says
 
 -- the numbers from place o on fit these many bytes each
 abbrev pub narrow : Bool → ℕ → List ℕ → List ℕ → Bool

@@ -164,7 +164,7 @@ pub record Refusing (l : Limits) (rows : List Row) (log image out : List ℕ) (c
   pub number : Lowest rows (c .number)
   pub refused : (c .number ≡ 0 → ⊥) → c ≡ called (c .number) log image (cleared l out) blankCode
 
--- ---- what helpers of the code promise, and no public contract says
+-- ---- what inner functions promise, and no public contract says
 
 -- the numbers of a start fit the code's types
 unfoldable pub settingsNarrow : ℕ → ℕ → ℕ → ℕ → Bool

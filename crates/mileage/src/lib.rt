@@ -16,7 +16,7 @@ ghost use Rattle.codec.specs.Formats.{wrote};
 ghost use Rattle.fields.specs.Fields.{readLogCall, writeLogCall, readMessageCall, writeMessageCall};
 ghost use Rattle.mileage.specs.Calls.{called, startCall, keyOnCall, proposeCall, deliverCall};
 
-// A unit holds arrays, so what was read stands beside the refusal.
+// What reading a unit finds: a refusal or None, and the unit. A unit holds arrays, so it stands beside the refusal.
 pub(crate) struct UnitRead {
     refusal: Refusal,
     unit: Unit,
@@ -128,7 +128,7 @@ pub extern "C" fn mileage_propose(log: &[u8], image: &mut [u8], mileage: u32, ou
     tally::number(Refusal::None)
 }
 
-// Delivers a message: writes log, image, message and decision, where nothing is refused.
+// Delivers a message: where nothing is refused, writes log, image and message. The decision is always written.
 #[no_mangle]
 pub extern "C" fn mileage_deliver(
     log: &mut [u8],
