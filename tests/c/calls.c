@@ -11,8 +11,8 @@
 #include "calls_histories.h"
 #include "calls_random.h"
 
-#define DEFAULT_CALLS 4000000ul
-#define DEFAULT_HISTORIES 20000ul
+#define DEFAULT_CALLS 3000000ul
+#define DEFAULT_HISTORIES 15000ul
 
 int main(int argc, char **argv)
 {
