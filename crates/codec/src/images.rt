@@ -5,7 +5,6 @@ use super::codes;
 use super::logs;
 use super::numbers;
 use contents::Image;
-use contents::Log;
 use contents::Settings;
 use contents::State;
 use tally::Cell;

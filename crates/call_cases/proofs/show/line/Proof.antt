@@ -1,5 +1,4 @@
 use borrow.Author.Needs.{needs}
-use native.Mathlib.Omega.{arith}
 use Prim.Native.Nat.{_-_}
 use Rattle.call_cases.proofs.show.line.Statement.{statement}
 use Rattle.call_cases.proofs.show.line.Tie as tie
