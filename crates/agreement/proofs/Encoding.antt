@@ -18,9 +18,7 @@ use Rattle.contents.specs.declared.Kind.the-variants.{Empty, First, Check, Seco
 use Rattle.contents.specs.declared.Message.{Message}
 use Rattle.contents.proofs.Facts.{known-or-blank}
 use Rattle.codec.specs.Codes.{kindLetter}
-use Rattle.codec.specs.Formats.{toBytes}
 use Rattle.codec.specs.Images.{imageBytes}
-use Rattle.codec.specs.Messages.{messageFormat}
 use Rattle.codec.specs.Numbers.{bytesOf}
 use Rattle.codec.proofs.Letters.{estimate-code}
 use Rattle.consensus.specs.Methods as D
@@ -41,26 +39,8 @@ use Rattle.agreement.specs.Bytes as B
 use Rattle.agreement.specs.Bytes.{UnitBytes, ByteWorld, up, down, unlessEmpty, allZero}
 use Rattle.agreement.specs.Contents as C
 use Rattle.agreement.specs.Contents.{ContentsWorld}
+use Rattle.agreement.specs.Encoded.{unitBytesAt, unitBytes, sentBytes, Encodes}
 use Rattle.agreement.specs.Worlds.{put, change, keep, report, give, decision, Decision, Proposal}
-
--- the bytes of a unit: an image only while it is up
-abbrev pub unitBytesAt : Limits → Power → U.Unit → UnitBytes
-unitBytesAt l Up x = up (logBytes l (unitLog x)) (imageBytes l (unitImage x))
-unitBytesAt l Down x = down (logBytes l (unitLog x))
-
-abbrev pub unitBytes : Limits → U.Unit → UnitBytes
-unitBytes l x = unitBytesAt l (x .power) x
-
--- the bytes of a message that is not empty
-abbrev pub sentBytes : Limits → Message → List ℕ
-sentBytes l m = toBytes (messageFormat l) m
-
--- the world b has the bytes of the world w
-pub record Encodes (l : Limits) (n : ℕ) (b : ByteWorld) (w : ContentsWorld) : Type 0 where
-  pub units : (u : ℕ) → u < n → b .units u ≡ unitBytes l (w .units u)
-  pub sent : b .sent ≡ map (sentBytes l) (w .sent)
-  pub proposed : b .proposed ≡ w .proposed
-  pub decided : b .decided ≡ w .decided
 
 -- what it takes that these bytes are read back
 pub record Valid (l : Limits) (n : ℕ) (w : ContentsWorld) : Type 0 where
@@ -222,28 +202,32 @@ module _ (l : Limits) (sane : Sane l) (n : ℕ) (b : ByteWorld) (w : ContentsWor
   image = imageBytes l (unitImage (w .units u))
 
   module _ (on : w .units u .power ≡ Up) (out : List ℕ) where
-    pub on-proposal : (v : ℕ) → Follows l n (B.afterProposal b u v (proposeCall l log image v out)) w
-    unfolding proposeCallRows C.step C.apply
-    on-proposal v =
-        follow l n w (proposeCallRows l log image v out) log image out (proposeCall l log image v out) (propose-refusing l log image v out) a
-        (λ none. propose-encoded l sane (w .units u) (valid .units u below) on v out (or-length (unitLengths l log image) out (messageSize l) (none .0)))
-        (B.afterProposal b u v) (C.proposal u v)
-        (λ number.
+    -- an accepted proposal's answer, as bytes
+    pub step-proposal : (v : ℕ) → numberOf (D.propose l (w .units u) v .refusal) ≡ 0
+        → Encodes l n (B.afterProposal b u v (answered l (D.propose l (w .units u) v))) (C.step l n w (C.proposal u v))
+    unfolding C.step C.apply
+    step-proposal v number =
         rw (lt-ltb u n below)
-        (encodes-proposal l sane n b w enc u a (propose-power l (w .units u) v ∙ on)
-        (sound-propose l (w .units u) v (valid .units u below) .decision) number v))
+        (encodes-proposal l sane n b w enc u (D.propose l (w .units u) v) (propose-power l (w .units u) v ∙ on)
+        (sound-propose l (w .units u) v (valid .units u below) .decision) number v)
+
+    pub on-proposal : (v : ℕ) → Follows l n (B.afterProposal b u v (proposeCall l log image v out)) w
+    unfolding proposeCallRows
+    on-proposal v =
+        follow l n w (proposeCallRows l log image v out) log image out (proposeCall l log image v out) (propose-refusing l log image v out)
+        (D.propose l (w .units u) v)
+        (λ none. propose-encoded l sane (w .units u) (valid .units u below) on v out (or-length (unitLengths l log image) out (messageSize l) (none .0)))
+        (B.afterProposal b u v) (C.proposal u v) (step-proposal v)
         (λ kept. refused-proposal l sane n b w enc u on (proposeCall l log image v out) kept v)
-      where
-        a : Answer
-        a = D.propose l (w .units u) v
 
     module _ (m : Message) (ok : messageOk l m ≡ true) where
-      -- a delivery or a cut of it, as f makes of the call's answer and e is of contents
-      on-message : (f : Called → ByteWorld) (e : C.Event)
-          → ((a : Answer) → a ≡ D.deliver l (w .units u) m → a .unit .power ≡ Up → mileageOrBlank l (a .decision) ≡ true
-          → numberOf (a .refusal) ≡ 0
-          → Encodes l n (f (answered l a)) (C.step l n w e))
-          → ((c : Called) → Unchanged log image c → Encodes l n (f c) w)
+      -- an accepted delivery's answer, as bytes, where f is what the event makes of it and e is of contents
+      abbrev pub Delivers : (Called → ByteWorld) → C.Event → Type 0
+      Delivers f e =
+          numberOf (D.deliver l (w .units u) m .refusal) ≡ 0 → Encodes l n (f (answered l (D.deliver l (w .units u) m))) (C.step l n w e)
+
+      -- a delivery or a cut of it
+      on-message : (f : Called → ByteWorld) (e : C.Event) → Delivers f e → ((c : Called) → Unchanged log image c → Encodes l n (f c) w)
           → Follows l n (f (deliverCall l log image (sentBytes l m) out)) w
       unfolding deliverCallRows
       on-message f e accepted refused =
@@ -251,55 +235,62 @@ module _ (l : Limits) (sane : Sane l) (n : ℕ) (b : ByteWorld) (w : ContentsWor
           (deliver-refusing l log image (sentBytes l m) out) (D.deliver l (w .units u) m)
           (λ none. deliver-encoded l sane (w .units u) (valid .units u below) on m out ok
           (or-length (unitLengths l log image || wrongLength (sentBytes l m) (messageSize l)) out (messageSize l) (none .0)))
-          f e
-          (λ number. accepted (D.deliver l (w .units u) m) refl (deliver-power l (w .units u) m ∙ on)
-          (sound-deliver l (w .units u) m (valid .units u below) .decision) number)
-          (refused (deliverCall l log image (sentBytes l m) out))
+          f e accepted (refused (deliverCall l log image (sentBytes l m) out))
+
+      power : D.deliver l (w .units u) m .unit .power ≡ Up
+      power = deliver-power l (w .units u) m ∙ on
+
+      known : mileageOrBlank l (D.deliver l (w .units u) m .decision) ≡ true
+      known = sound-deliver l (w .units u) m (valid .units u below) .decision
 
       module _ (k : ℕ) (there : getElem? (w .sent) k ≡ some m) where
-        pub on-delivery : Follows l n (B.after b u (m .round) (deliverCall l log image (sentBytes l m) out)) w
+        pub step-delivery : Delivers (B.after b u (m .round)) (C.delivery u k)
         unfolding C.step C.apply C.delivering
+        step-delivery number =
+            rw (lt-ltb u n below, there) (encodes-after l sane n b w enc u (D.deliver l (w .units u) m) power known number (m .round))
+
+        pub on-delivery : Follows l n (B.after b u (m .round) (deliverCall l log image (sentBytes l m) out)) w
         on-delivery =
-            on-message (B.after b u (m .round)) (C.delivery u k)
-            (λ a same up known number. rw (lt-ltb u n below, there)
-            (subst (λ z. Encodes l n (B.after b u (m .round) (answered l a)) (C.after w u (m .round) z)) same
-            (encodes-after l sane n b w enc u a up known number (m .round))))
-            (λ c kept. refused-after l sane n b w enc u on c kept (m .round))
+            on-message (B.after b u (m .round)) (C.delivery u k) step-delivery (λ c kept. refused-after l sane n b w enc u on c kept (m .round))
+
+        pub step-cut : Delivers (B.afterCut b u) (C.cut u k)
+        unfolding C.step C.apply C.delivering
+        step-cut number = rw (lt-ltb u n below, there) (encodes-cut l sane n b w enc u (D.deliver l (w .units u) m) power known number)
 
         pub on-cut : Follows l n (B.afterCut b u (deliverCall l log image (sentBytes l m) out)) w
-        unfolding C.step C.apply C.delivering
-        on-cut =
-            on-message (B.afterCut b u) (C.cut u k)
-            (λ a same up known number. rw (lt-ltb u n below, there) (subst (λ z. Encodes l n (B.afterCut b u (answered l a)) (C.afterCut w u z)) same
-            (encodes-cut l sane n b w enc u a up known number)))
-            (λ c kept. refused-cut l sane n b w enc u on c kept)
+        on-cut = on-message (B.afterCut b u) (C.cut u k) step-cut (λ c kept. refused-cut l sane n b w enc u on c kept)
 
   -- key-off, of a unit up or down
-  pub on-off : Follows l n (change b u (down (b .units u .log))) w
+  pub step-off : Encodes l n (change b u (down (b .units u .log))) (C.step l n w (C.off u))
   unfolding C.step C.apply D.keyOff D.unless firstOf downUnit atLog
-  on-off = inr (C.off u, rw (lt-ltb u n below) (encodes-change l n b w enc u _ _ (λ h. rw (enc .units u below) (go (w .units u .power) refl))))
+  step-off = rw (lt-ltb u n below) (encodes-change l n b w enc u _ _ (λ h. rw (enc .units u below) (go (w .units u .power) refl)))
     where
       go : (p : Power) → w .units u .power ≡ p → down (unitBytesAt l p (w .units u) .log) ≡ unitBytes l (D.keyOff (w .units u) .unit)
       go Up e = rw e
       go Down e = rw e
 
-  -- key-on of a down unit, whatever the image buffer held
-  pub on-key : w .units u .power ≡ Down → (buffer : List ℕ) → Follows l n (B.afterKeyOn b u (keyOnCall l log buffer)) w
-  unfolding B.afterKeyOn C.step C.apply keyOnCallRows unitLengths D.keyOn D.unless firstOf downUnit atLog recovered
-  on-key off buffer = go (eqb (c .number) 0) refl
-    where
-      c : Called
-      c = keyOnCall l log buffer
+  pub on-off : Follows l n (change b u (down (b .units u .log))) w
+  on-off = inr (C.off u, step-off)
 
-      go : (t : Bool) → eqb (c .number) 0 ≡ t → Follows l n (cond t (change b u (up (c .log) (c .image))) (change b u (down (c .log)))) w
-      go true e =
-          let none = key-on-refusing l log buffer .number .accepted (eqb-true (c .number) 0 e) in
-          let size = or-length (wrongLength log (logSize l)) buffer (imageSize l) (none .0) in
-          inr (
-            C.on u,
-            rw (key-on-encoded l sane (unitLog (w .units u)) buffer (valid .units u below .log) size, lt-ltb u n below)
-                (encodes-change l n b w enc u _ _ (λ h. rw off)),
-          )
-      go false e =
-          let kept = unchanged l (keyOnCallRows l log buffer) log buffer [] c (key-on-refusing l log buffer) e in
-          inl (encodes-same l n b w enc u (down (c .log)) (λ h. rw (kept .log, off)))
+  -- key-on of a down unit, whatever the image buffer held
+  module _ (off : w .units u .power ≡ Down) (buffer : List ℕ) where
+    pub step-on : length buffer ≡ imageSize l → Encodes l n (B.afterKeyOn b u (keyOnCall l log buffer)) (C.step l n w (C.on u))
+    unfolding B.afterKeyOn C.step C.apply D.keyOn D.unless firstOf downUnit atLog recovered
+    step-on size =
+        rw (key-on-encoded l sane (unitLog (w .units u)) buffer (valid .units u below .log) size, lt-ltb u n below)
+        (encodes-change l n b w enc u _ _ (λ h. rw off))
+
+    pub on-key : Follows l n (B.afterKeyOn b u (keyOnCall l log buffer)) w
+    unfolding B.afterKeyOn keyOnCallRows unitLengths
+    on-key = go (eqb (c .number) 0) refl
+      where
+        c : Called
+        c = keyOnCall l log buffer
+
+        go : (t : Bool) → eqb (c .number) 0 ≡ t → Follows l n (B.afterKeyOn b u c) w
+        go true e =
+            let none = key-on-refusing l log buffer .number .accepted (eqb-true (c .number) 0 e) in
+            inr (C.on u, step-on (or-length (wrongLength log (logSize l)) buffer (imageSize l) (none .0)))
+        go false e =
+            let kept = unchanged l (keyOnCallRows l log buffer) log buffer [] c (key-on-refusing l log buffer) e in
+            inl (rw e (encodes-same l n b w enc u (down (c .log)) (λ h. rw (kept .log, off))))

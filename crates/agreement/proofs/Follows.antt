@@ -22,21 +22,22 @@ use Rattle.mileage.proofs.Encoded.{read-message}
 use Rattle.agreement.specs.Bytes.{afterCut, ByteWorld, Event, proposal, delivery, cut, off, on, call, proposalOf, delivering, keyOnOf, ofUnit, roundOf}
 use Rattle.agreement.specs.Bytes.{after, step, LawfulEvent}
 use Rattle.agreement.specs.Contents.{ContentsWorld}
-use Rattle.agreement.proofs.Encoding.{unitBytesAt, sentBytes, Encodes, Valid, Follows, on-proposal, on-delivery, on-cut, on-off, on-key}
+use Rattle.agreement.specs.Encoded.{unitBytesAt, sentBytes, Encodes}
+use Rattle.agreement.proofs.Encoding.{Valid, Follows, on-proposal, on-delivery, on-cut, on-off, on-key}
 use Rattle.agreement.proofs.History.{at-place}
 use Rattle.agreement.proofs.Refused.{has-log, on-call}
 
 -- the bytes of a message, if there is one
-abbrev bytesIf : Limits → Option Message → Option (List ℕ)
+abbrev pub bytesIf : Limits → Option Message → Option (List ℕ)
 bytesIf l none = none
 bytesIf l (some m) = some (sentBytes l m)
 
-sent-at : (l : Limits) (ms : List Message) (k : ℕ) → getElem? (map (sentBytes l) ms) k ≡ bytesIf l (getElem? ms k)
+pub sent-at : (l : Limits) (ms : List Message) (k : ℕ) → getElem? (map (sentBytes l) ms) k ≡ bytesIf l (getElem? ms k)
 sent-at l [] k = refl
 sent-at l (m ∷ ms) zero = refl
 sent-at l (m ∷ ms) (suc k) = sent-at l ms k
 
-sent-in : (ms : List Message) (k : ℕ) (m : Message) → getElem? ms k ≡ some m → List·Memᴰ m ms
+pub sent-in : (ms : List Message) (k : ℕ) (m : Message) → getElem? ms k ≡ some m → List·Memᴰ m ms
 sent-in ms k m =
     at-place (λ o. o ≡ some m → List·Memᴰ m ms) ms (λ h. never cc) (λ a i h. let e : a ≡ m = cc in subst (λ z. List·Memᴰ z ms) e i) k
 

@@ -48,7 +48,7 @@ When P none = Unit
 When P (some a) = P a
 
 -- one more, if any
-abbrev added : {A : Type 0} → List A → Option A → List A
+abbrev pub added : {A : Type 0} → List A → Option A → List A
 added xs none = xs
 added xs (some a) = xs ++ (a ∷ [])
 
@@ -85,7 +85,7 @@ when-decided P u r Split h = tt
 when-decided P u r (Mileage v) h = h
 
 -- the world after an answer, field by field
-abbrev answered : ContentsWorld → List Proposal → ℕ → ℕ → Answer → ContentsWorld
+abbrev pub answered : ContentsWorld → List Proposal → ℕ → ℕ → Answer → ContentsWorld
 answered w ps u r a =
     record {
       units = put (w .units) u (a .unit);
@@ -94,7 +94,7 @@ answered w ps u r a =
       decided = added (w .decided) (decision u r (a .decision));
     }
 
-after-is : (w : ContentsWorld) (u r : ℕ) (a : Answer) → after w u r a ≡ answered w (w .proposed) u r a
+pub after-is : (w : ContentsWorld) (u r : ℕ) (a : Answer) → after w u r a ≡ answered w (w .proposed) u r a
 unfolding after
 after-is w u r a = go (unlessEmpty (a .message .kind) (a .message)) (decision u r (a .decision))
   where

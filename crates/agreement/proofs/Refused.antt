@@ -25,7 +25,8 @@ use Rattle.mileage.proofs.Rows.{start-refusing, key-on-refusing, propose-refusi
 use Rattle.agreement.specs.Bytes.{ByteWorld, Lent, logOf, imageOf, other, Call, starts, keysOn, proposes, delivers, readsLog, readsMessage}
 use Rattle.agreement.specs.Bytes.{writesLog, writesMessage, lentBytes, bytesOr, imageLeft, Exit, runCall, ended, leave, leaveAll}
 use Rattle.agreement.specs.Contents.{ContentsWorld}
-use Rattle.agreement.proofs.Encoding.{unitBytesAt, Encodes, Valid, encodes-same}
+use Rattle.agreement.specs.Encoded.{unitBytesAt, Encodes}
+use Rattle.agreement.proofs.Encoding.{Valid, encodes-same}
 
 -- a buffer at exit holds what it held, or that cleared
 abbrev Stays : Limits → ByteWorld → Exit → Type 0

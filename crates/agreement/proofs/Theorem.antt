@@ -26,8 +26,9 @@ use Rattle.mileage.proofs.Encoded.{Started, start-accepted, read-log, read-imag
 use Rattle.agreement.specs.Bytes.{UnitBytes, ByteWorld, up, Event, startOf, begun, step, LawfulEvent, Lawful}
 use Rattle.agreement.specs.Contents as C
 use Rattle.agreement.specs.Demand3.{view, Demand3}
+use Rattle.agreement.specs.Encoded.{unitBytesAt, unitBytes, sentBytes, Encodes}
 use Rattle.agreement.specs.Worlds.{Setup, settingsOf, Decision, run, Given, Locked, Seconded, Reported, Agreed}
-use Rattle.agreement.proofs.Encoding.{unitBytesAt, unitBytes, sentBytes, Encodes, Valid, Follows}
+use Rattle.agreement.proofs.Encoding.{Valid, Follows}
 use Rattle.agreement.proofs.Follows.{step-follows}
 use Rattle.agreement.proofs.History.{Inv, Later, now, and-later, step-later, step-inv, begun-inv, well-formed-unit, from-unit, decided-given}
 use Rattle.agreement.proofs.History.{step-proposed}
@@ -46,7 +47,7 @@ pub record BytesInv (l : Limits) (c : Setup) (b : ByteWorld) : Type 0 where
   pub inv : Inv l c contents
 
 module _ (l : Limits) (sane : Sane l) (c : Setup) where
-  valid : (w : C.ContentsWorld) → Inv l c w → Valid l (c .n) w
+  pub valid : (w : C.ContentsWorld) → Inv l c w → Valid l (c .n) w
   valid w inv = record { units = λ u h. well-formed-unit l c w inv u h .0; sent = λ m h. from-unit l c w inv m h .well-formed }
 
   -- events lead from b to b′: the invariant holds there, and what was sent or proposed stays
@@ -85,20 +86,18 @@ module _ (l : Limits) (sane : Sane l) (c : Setup) where
     start-at : (u : ℕ) → u < c .n → Started l (letterOf (c .engine)) (c .n) u (c .entry) (startOf l c logs images u)
     start-at u h = start-accepted l sane (letterOf (c .engine)) (c .n) u (c .entry) (logs u) (images u) (started u h)
 
-    pub bytes-begun : BytesInv l c (begun l c logs images)
+    pub encodes-begun : Encodes l (c .n) (begun l c logs images) (C.begun c)
     unfolding begun C.begun fresh atLog
-    bytes-begun =
-        record {
-          contents = C.begun c;
-          encodes = record { units = same; sent = refl; proposed = refl; decided = refl };
-          inv = begun-inv l c (λ u h. start-at u h .range);
-        }
+    encodes-begun = record { units = same; sent = refl; proposed = refl; decided = refl }
       where
         same : (u : ℕ) → u < c .n → up (startOf l c logs images u .log) (startOf l c logs images u .image) ≡ unitBytes l (fresh (settingsOf c u))
         same u h =
             let s = start-at u h in
             let g : c .engine ≡ s .known = is-inj (c .engine) (s .known) (sym (engine-letter (c .engine)) ∙ s .letter) in
             rw (s .answer, ← g)
+
+    pub bytes-begun : BytesInv l c (begun l c logs images)
+    bytes-begun = record { contents = C.begun c; encodes = encodes-begun; inv = begun-inv l c (λ u h. start-at u h .range) }
 
   -- what holds of a world's contents is said of its bytes
   module _ (b : ByteWorld) (i : BytesInv l c b) where

@@ -2,3 +2,4 @@ pub mod Worlds
 pub mod Contents
 pub mod Bytes
 pub mod Demand3
+pub mod Encoded

@@ -77,7 +77,7 @@ impl Unit {
     }
 
     // A refusal changes nothing, sends nothing and decides nothing.
-    fn refused(self, refusal: Refusal) -> Answer
+    pub fn refused(self, refusal: Refusal) -> Answer
         ensures { λ r. ⌜ r ≡ refuses self refusal ⌝ }
     {
         Answer {

@@ -1,0 +1,203 @@
+-- No listing is longer than its widths say. Assumes nothing.
+use Prim.Native.Nat.{ℕ, suc, _+_, _*_, _≤_, _<_, _^_}
+use mathlib.Core.Path.{_≡_, refl, sym, ap, _∙_}
+use mathlib.Core.Bool.{Bool, true, false, cond}
+use mathlib.Core.List.{List, [], _∷_, _++_}
+use native.Mathlib.Omega.{arith}
+use lib.Dec.{leb, eqb}
+use lib.ListN.{length, drop, length-append, length-drop}
+use borrow.Author.Tests.{leb-true, leb-false}
+use Rattle.tally.specs.Limits.{Limits, places, scriptSize}
+use Rattle.tally.specs.declared.Refusal.{Refusal}
+use Rattle.codec.specs.Codes as Codes
+use Rattle.bench_script.specs.Numbers.{maxDigits}
+use Rattle.bench_script.specs.Parts.{comma, newline, onto, parted}
+use Rattle.bench_script.specs.Script.{inRanges, eventOf, left, eventsOf}
+use Rattle.bench_script.specs.declared.Event.{Event}
+use Rattle.bench_script.specs.declared.Header.{Header}
+use Rattle.bench_script.proofs.EventLines.{short-line}
+use Rattle.bench_script.proofs.HeaderLines.{ranges}
+use Rattle.bench_play.specs.Bench.{start, refused}
+use Rattle.bench_play.specs.Play.{answer, play, benchAfter}
+use Rattle.bench_play.specs.declared.Bench.{Bench}
+use Rattle.bench_play.specs.declared.Reply.{Reply}
+use Rattle.bench_play.proofs.Kept.{answer-kept}
+use Rattle.bench_text.specs.Text.{decimal, shownText, fieldText, lineText, headerText, rowFields, rowText, endText}
+use Rattle.bench_text.specs.declared.Row.{Row}
+use Rattle.bench_text.specs.declared.Shown.{Shown}
+use Rattle.bench_text.proofs.Digits.{digits-most, digits-short}
+use Rattle.bench.specs.Listing.{questionMark, letterOf, rowOf, rowsText, headerLine, malformedRow, malformedText}
+use Rattle.bench.specs.Turns.{eventsFrom, restText}
+use Rattle.bench.specs.Widths.{unitsWidth, entryWidth, indexWidth, keptWidth, headerWidth, malformedWidth, endWidth, maxListing}
+use Rattle.bench.proofs.Lines.{Some, parted-some}
+use Rattle.bench.proofs.Rest.{none-kept}
+
+-- ---- the bytes of parts, with those between
+
+abbrev size : List (List ℕ) → ℕ
+size [] = 0
+size (p ∷ []) = length p
+size (p ∷ q ∷ ps) = suc (length p + size (q ∷ ps))
+
+parted-size : (c : ℕ) (s : List ℕ) → size (parted c s) ≡ length s
+parted-size c [] = refl
+parted-size c (b ∷ s) = go (eqb b c) (parted-some c s) (parted-size c s)
+  where
+    onto-size : (q : List ℕ) (ps : List (List ℕ)) → size ((b ∷ q) ∷ ps) ≡ suc (size (q ∷ ps))
+    onto-size q [] = refl
+    onto-size q (p ∷ ps) = omega arith
+
+    go : (t : Bool) → Some (parted c s) → size (parted c s) ≡ length s → size (cond t ([] ∷ parted c s) (onto b (parted c s))) ≡ suc (length s)
+    go true r h = rw (r .same) (omega (arith, ap size (sym (r .same)) ∙ h))
+    go false r h = ap (λ (ps : List (List ℕ)). size (onto b ps)) (r .same) ∙ onto-size (r .first) (r .others) ∙ ap suc (ap size (sym (r .same)) ∙ h)
+
+-- ---- a row
+
+shown-short : (s : Shown) → length (shownText s) ≤ maxDigits
+unfolding shownText decimal
+shown-short Shown.Dash = omega arith
+shown-short (Shown.Letter b) = omega arith
+shown-short (Shown.Number n) = digits-short maxDigits n
+
+number-most : (j n : ℕ) → n < 10 ^ suc j → length (shownText (Shown.Number n)) ≤ suc j
+unfolding shownText decimal
+number-most j n h = digits-most j maxDigits n h
+
+field-length : (s : Shown) (b : ℕ) → length (fieldText s b) ≡ length (shownText s) + 1
+unfolding fieldText
+field-length s b = length-append (shownText s) (b ∷ [])
+
+-- a byte after each field
+abbrev lineLength : List Shown → ℕ
+lineLength [] = 1
+lineLength (s ∷ []) = length (shownText s) + 1
+lineLength (s ∷ t ∷ ss) = length (shownText s) + 1 + lineLength (t ∷ ss)
+
+line-text : (ss : List Shown) → length (lineText ss) ≡ lineLength ss
+line-text [] = refl
+line-text (s ∷ []) = field-length s newline
+line-text (s ∷ t ∷ ss) = rw length-append (omega (arith, field-length s comma, line-text (t ∷ ss)))
+
+letter-length : (b : ℕ) → length (shownText (Shown.Letter b)) ≡ 1
+unfolding shownText
+letter-length b = refl
+
+dash-length : length (shownText Shown.Dash) ≡ 1
+unfolding shownText
+dash-length = refl
+
+row-length : (r : Row) → length (rowText r) ≡ lineLength (rowFields r)
+unfolding rowText
+row-length r = line-text (rowFields r)
+
+module _ (i : ℕ) (small : i < 100000) where
+  row-malformed : (b : Bench) → length (rowText (rowOf i Event.Malformed (refused b Refusal.Line))) ≤ malformedWidth
+  unfolding rowOf
+  row-malformed b =
+      omega (
+        arith,
+        row-length (rowOf i Event.Malformed (refused b Refusal.Line)),
+        number-most 4 i small,
+        letter-length questionMark,
+        number-most 0 8 (omega arith),
+        dash-length,
+      )
+
+  row-any : (e : Event) (r : Reply) → length (rowText (rowOf i e r)) ≤ 4 * malformedWidth
+  unfolding rowOf
+  row-any e r =
+      omega (
+        arith,
+        row-length (rowOf i e r),
+        number-most 4 i small,
+        letter-length (letterOf e),
+        shown-short (rowOf i e r .unit),
+        shown-short (Shown.Number (rowOf i e r .number)),
+        shown-short (rowOf i e r .sent),
+        shown-short (rowOf i e r .decision),
+      )
+
+-- ---- the rows of a script
+
+module _ (l : Limits) (n : ℕ) where
+  -- a line has no more than a malformed line's bytes for each of its own
+  line-length : (b : Bench) (i : ℕ) (p : List ℕ) → i < 100000
+      → length (rowText (rowOf i (eventOf n p) (answer l b (eventOf n p)))) ≤ malformedWidth * suc (length p)
+  unfolding answer
+  line-length b i p small = go (leb 3 (length p)) refl
+    where
+      none : eventOf n p ≡ Event.Malformed → length (rowText (rowOf i (eventOf n p) (answer l b (eventOf n p)))) ≤ malformedWidth
+      none e = rw e (row-malformed i small b)
+
+      go : (t : Bool) → leb 3 (length p) ≡ t → length (rowText (rowOf i (eventOf n p) (answer l b (eventOf n p)))) ≤ malformedWidth * suc (length p)
+      go true h = omega (arith, leb-true 3 (length p) h, row-any i small (eventOf n p) (answer l b (eventOf n p)))
+      go false h = omega (arith, none (short-line n p (leb-false 3 (length p) h)))
+
+  left-length : (b : Bench) (i : ℕ) (p : List ℕ) → i < 100000 → length (rowsText i (play l b (left p))) ≤ malformedWidth * length p
+  unfolding rowsText play answer
+  left-length b i [] small = omega arith
+  left-length b i (x ∷ p) small = rw length-append (omega (arith, row-malformed i small b))
+
+  rows-length : (b : Bench) (i : ℕ) (ps : List (List ℕ)) → i + size ps < 100000
+      → length (rowsText i (play l b (eventsOf n ps))) ≤ malformedWidth * size ps
+  unfolding rowsText play eventsOf
+  rows-length b i [] small = omega arith
+  rows-length b i (p ∷ []) small = left-length b i p (omega arith)
+  rows-length b i (p ∷ q ∷ ps) small =
+      let e = eventOf n p in
+      rw length-append
+      (omega (arith, line-length b i p (omega arith), rows-length (answer l b e .bench) (i + 1) (q ∷ ps) (omega arith)))
+
+  left-count : (p : List ℕ) → length (left p) ≤ length p
+  left-count [] = omega arith
+  left-count (x ∷ p) = omega arith
+
+  events-count : (ps : List (List ℕ)) → length (eventsOf n ps) ≤ size ps
+  unfolding eventsOf
+  events-count [] = omega arith
+  events-count (p ∷ []) = left-count p
+  events-count (p ∷ q ∷ ps) = omega (arith, events-count (q ∷ ps))
+
+after-kept : (l : Limits) (b : Bench) (es : List Event) → b .kept ≤ places → benchAfter l b es .kept ≤ places
+unfolding benchAfter
+after-kept l b [] h = h
+after-kept l b (e ∷ es) h = after-kept l (answer l b e .bench) es (answer-kept b h l e)
+
+-- ---- header and final line
+
+header-length : (h : Header) → inRanges (h .n) (h .entry) ≡ true → length (headerLine h) ≤ headerWidth
+unfolding headerLine headerText
+header-length h ok =
+    let r = ranges (h .n) (h .entry) ok in
+    let letter = Codes.letterOf (h .engine) in
+    omega (
+      arith,
+      line-text (Shown.Letter letter ∷ Shown.Number (h .n) ∷ Shown.Number (h .entry) ∷ []),
+      letter-length letter,
+      number-most 1 (h .n) (omega (arith, r .1)),
+      number-most 3 (h .entry) (omega (arith, r .3)),
+    )
+
+end-length : (events kept : ℕ) → events < 100000 → kept < 1000 → length (endText events kept) ≤ endWidth
+unfolding endText
+end-length events kept e k =
+    rw length-append (omega (arith, line-text (Shown.Number events ∷ Shown.Number kept ∷ []), number-most 4 events e, number-most 2 kept k))
+
+-- ---- the whole
+
+pub played-length : (l : Limits) (h : Header) (s : List ℕ) (p : ℕ) → inRanges (h .n) (h .entry) ≡ true → length s ≤ scriptSize
+    → length (headerLine h ++ restText l (start h) 0 (eventsFrom (h .n) s p)) ≤ maxListing
+unfolding restText eventsFrom
+played-length l h s p ok short =
+    let ps = parted newline (drop p s) in
+    let whole : size ps ≡ length (drop p s) = parted-size newline (drop p s) in
+    let least : size ps ≤ scriptSize = omega (arith, whole, length-drop p s) in
+    let rows = rows-length l (h .n) (start h) 1 ps (omega arith) in
+    let count = events-count l (h .n) ps in
+    let kept = after-kept l (start h) (eventsOf (h .n) ps) (none-kept h) in
+    let end = end-length (0 + length (eventsOf (h .n) ps)) (benchAfter l (start h) (eventsOf (h .n) ps) .kept) (omega (arith, count)) (omega (arith, kept)) in
+    simp length-append (omega (arith, header-length h ok, rows, end))
+
+pub malformed-length : length malformedText ≤ maxListing
+unfolding malformedText malformedRow rowText endText fieldText shownText decimal
+malformed-length = leb-true _ _ refl

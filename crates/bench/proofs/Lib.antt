@@ -1,0 +1,4 @@
+pub mod Lines
+pub mod Rest
+pub mod Lengths
+pub mod Whole

@@ -1,0 +1,100 @@
+-- What is left to print, turn by turn. Assumes nothing.
+use Prim.Native.Nat.{ℕ, suc, _+_, _≤_, _<_}
+use mathlib.Core.Path.{_≡_, refl, sym, ap, _∙_}
+use mathlib.Core.List.{List, [], _∷_, _++_, append-assoc}
+use native.Mathlib.Nat.{add-zero}
+use native.Mathlib.Omega.{arith}
+use lib.ListN.{length, length-append}
+use lib.Seq.{sets}
+use Rattle.tally.specs.Limits.{Limits, places}
+use Rattle.bench_script.specs.declared.Event.{Event}
+use Rattle.bench_script.specs.declared.Header.{Header}
+use Rattle.bench_play.specs.Bench.{start}
+use Rattle.bench_play.specs.Play.{answer, play, benchAfter}
+use Rattle.bench_play.specs.declared.Bench.{Bench}
+use Rattle.bench_play.specs.declared.Reply.{Reply}
+use Rattle.bench_text.specs.Text.{rowText, endText, Puts}
+use Rattle.bench_text.specs.declared.Row.{Row}
+use Rattle.bench_text.proofs.Appending.{sets-append, room-first}
+use Rattle.bench.specs.Listing.{rowOf, rowsText}
+use Rattle.bench.specs.Turns.{eventsFrom, restText, LineAt, Turned}
+use Rattle.bench.specs.declared.turns.Line.{Line}
+use Rattle.bench.specs.declared.turns.Turn.{Turn}
+use Rattle.bench.proofs.Lines.{events-end}
+
+-- a row, and then the rest
+pub rest-turn : (l : Limits) (b : Bench) (i : ℕ) (e : Event) (es : List Event)
+    → restText l b i (e ∷ es) ≡ rowText (rowOf (i + 1) e (answer l b e)) ++ restText l (answer l b e .bench) (i + 1) es
+unfolding restText rowsText play benchAfter
+rest-turn l b i e es =
+    let more : i + suc (length es) ≡ i + 1 + length es = omega arith in
+    rw (more, append-assoc)
+
+-- at last the final line
+pub rest-end : (l : Limits) (b : Bench) (i : ℕ) → restText l b i [] ≡ endText i (b .kept)
+unfolding restText rowsText play benchAfter
+rest-end l b i = rw add-zero
+
+-- at the start no place is filled
+pub none-kept : (h : Header) → start h .kept ≤ places
+unfolding start
+none-kept h = omega arith
+
+module _ (l : Limits) (n : ℕ) (s : List ℕ) where
+  -- room for the rest is room for a row
+  pub turn-room : (b : Bench) (i p q : ℕ) (e : Event) (xs : List ℕ) (at : ℕ) → eventsFrom n s p ≡ e ∷ eventsFrom n s q
+      → at + length (restText l b i (eventsFrom n s p)) ≤ length xs → at + length (rowText (rowOf (i + 1) e (answer l b e))) ≤ length xs
+  turn-room b i p q e xs at h room =
+      room-first at (rowText (rowOf (i + 1) e (answer l b e))) (restText l (answer l b e .bench) (i + 1) (eventsFrom n s q)) xs
+      (rw (h, rest-turn) at room)
+
+  pub turned : (b : Bench) (i p : ℕ) (line : Line) (reply : Reply) (row : Row) {xs ys : List ℕ} {at r : ℕ}
+      → LineAt n s p line → reply ≡ answer l b (line .event) → row ≡ rowOf (i + 1) (line .event) reply → Puts xs at (rowText row) ys r
+      → Turned l n s p b i xs at ys (record { bench = reply .bench; next = line .next; at = r })
+  turned b i p line reply row L a e w =
+      record {
+        event = line .event;
+        events = L .events;
+        later = L .later;
+        within = L .within;
+        bench = ap (λ (x : Reply). x .bench) a;
+        wrote = rw (← a, ← e) w;
+      }
+
+  -- what is left to print from here prints the whole
+  pub record Left (xs₀ : List ℕ) (b₀ : Bench) (p₀ at₀ : ℕ) (xs : List ℕ) (b : Bench) (p at i : ℕ) : Type 0 where
+    pub same : sets xs at (restText l b i (eventsFrom n s p)) ≡ sets xs₀ at₀ (restText l b₀ 0 (eventsFrom n s p₀))
+    pub ends : at + length (restText l b i (eventsFrom n s p)) ≡ at₀ + length (restText l b₀ 0 (eventsFrom n s p₀))
+
+  pub left-start : (xs : List ℕ) (b : Bench) (p at : ℕ) → Left xs b p at xs b p at 0
+  left-start xs b p at = record { same = refl; ends = refl }
+
+  module _ {xs₀ xs : List ℕ} {b₀ b : Bench} {p₀ at₀ p at i : ℕ} (L : Left xs₀ b₀ p₀ at₀ xs b p at i) where
+    pub left-step : {ys : List ℕ} {t : Turn} → Turned l n s p b i xs at ys t → Left xs₀ b₀ p₀ at₀ ys (t .bench) (t .next) (t .at) (i + 1)
+    left-step {ys} {t} T =
+        let row = rowText (rowOf (i + 1) (T .event) (answer l b (T .event))) in
+        let R = restText l (answer l b (T .event) .bench) (i + 1) (eventsFrom n s (t .next)) in
+        let f : restText l b i (eventsFrom n s p) ≡ row ++ R = rw (T .events) (rest-turn l b i (T .event) (eventsFrom n s (t .next))) in
+        record {
+          same = rw (T .bench, T .wrote .bytes, T .wrote .ends, sets-append xs at row R, ← f) (L .same);
+          ends = rw (T .bench, T .wrote .ends) (omega (arith, ap length f, length-append row R, L .ends));
+        }
+
+    pub left-room : (zs : List ℕ) → length xs ≡ length zs → at₀ + length (restText l b₀ 0 (eventsFrom n s p₀)) ≤ length zs
+        → at + length (restText l b i (eventsFrom n s p)) ≤ length xs
+    left-room zs e room = omega (arith, L .ends, e, room)
+
+    module _ (end : length s ≤ p) where
+      rest : restText l b i (eventsFrom n s p) ≡ endText i (b .kept)
+      rest = ap (restText l b i) (events-end n s p end) ∙ rest-end l b i
+
+      pub end-room : (zs : List ℕ) → length xs ≡ length zs → at₀ + length (restText l b₀ 0 (eventsFrom n s p₀)) ≤ length zs
+          → at + length (endText i (b .kept)) ≤ length xs
+      end-room zs e room = omega (arith, ap length rest, left-room zs e room)
+
+      pub left-end : {ys : List ℕ} {r : ℕ} → Puts xs at (endText i (b .kept)) ys r → Puts xs₀ at₀ (restText l b₀ 0 (eventsFrom n s p₀)) ys r
+      left-end P =
+          record {
+            bytes = P .bytes ∙ ap (sets xs at) (sym rest) ∙ L .same;
+            ends = P .ends ∙ ap (λ (t : List ℕ). at + length t) (sym rest) ∙ L .ends;
+          }

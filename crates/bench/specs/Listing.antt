@@ -1,0 +1,112 @@
+-- The listing of a script: parse, then play over a list of events, then print. Assumes nothing.
+use Prim.Native.Nat.{ℕ, _+_}
+use mathlib.Core.Bool.{cond}
+use mathlib.Core.List.{List, [], _∷_, _++_}
+use lib.Dec.{leb, ltb}
+use lib.ListN.{length, drop}
+use Rattle.tally.specs.Limits.{Limits, scriptSize}
+use Rattle.tally.specs.Refusal.{numberOf}
+use Rattle.tally.specs.declared.Estimate.{Estimate}
+use Rattle.tally.specs.declared.Refusal.{Refusal}
+use Rattle.codec.specs.Codes as Codes
+use Rattle.bench_script.specs.Script.{Script, malformed, script, parse, letterP, letterD, letterW, letterK, letterU}
+use Rattle.bench_script.specs.declared.Event.{Event}
+use Rattle.bench_script.specs.declared.Header.{Header}
+use Rattle.bench_play.specs.Bench.{start}
+use Rattle.bench_play.specs.Play.{Played, play, benchAfter}
+use Rattle.bench_play.specs.declared.Reply.{Reply}
+use Rattle.bench_play.specs.declared.Sent.{Sent}
+use Rattle.bench_text.specs.Text.{headerText, rowText, endText}
+use Rattle.bench_text.specs.declared.Row.{Row}
+use Rattle.bench_text.specs.declared.Shown.{Shown}
+use Rattle.bench.specs.Widths.{maxListing}
+
+-- ---- a line for each event line: index from 1, letter, unit, number, message number sent or -, decision or -
+
+abbrev pub questionMark : ℕ
+questionMark = 63
+
+abbrev pub letterOf : Event → ℕ
+letterOf Event.Malformed = questionMark
+letterOf (Event.Propose u v) = letterP
+letterOf (Event.Deliver u k) = letterD
+letterOf (Event.Cut u k) = letterW
+letterOf (Event.KeyOff u) = letterK
+letterOf (Event.KeyOn u) = letterU
+
+abbrev pub unitShown : Event → Shown
+unitShown Event.Malformed = Shown.Dash
+unitShown (Event.Propose u v) = Shown.Number u
+unitShown (Event.Deliver u k) = Shown.Number u
+unitShown (Event.Cut u k) = Shown.Number u
+unitShown (Event.KeyOff u) = Shown.Number u
+unitShown (Event.KeyOn u) = Shown.Number u
+
+abbrev pub sentShown : Sent → Shown
+sentShown Sent.Nothing = Shown.Dash
+sentShown (Sent.At k) = Shown.Number k
+
+abbrev pub decisionShown : Estimate → Shown
+decisionShown Estimate.Blank = Shown.Dash
+decisionShown Estimate.Split = Shown.Dash
+decisionShown (Estimate.Mileage v) = Shown.Number v
+
+unfoldable pub rowOf : ℕ → Event → Reply → Row
+rowOf i e r =
+    record {
+      index = i;
+      letter = letterOf e;
+      unit = unitShown e;
+      number = numberOf (r .refusal);
+      sent = sentShown (r .sent);
+      decision = decisionShown (r .decision);
+    }
+
+-- the lines of what was played, the first of them with index i
+unfoldable pub rowsText : ℕ → List Played → List ℕ
+rowsText i [] = []
+rowsText i (p ∷ ps) = rowText (rowOf i (p .event) (p .reply)) ++ rowsText (i + 1) ps
+
+-- ---- the listing
+
+-- the header with its letter
+unfoldable pub headerLine : Header → List ℕ
+headerLine h = headerText (Codes.letterOf (h .engine)) (h .n) (h .entry)
+
+-- the final line has the event lines, malformed ones too, and the messages kept
+unfoldable pub playedText : Limits → Header → List Event → List ℕ
+playedText l h es = headerLine h ++ (rowsText 1 (play l (start h) es) ++ endText (length es) (benchAfter l (start h) es .kept))
+
+-- a malformed header prints `0,?,-,8,-,-` and `end,0,0`
+unfoldable pub malformedRow : Row
+malformedRow =
+    record { index = 0; letter = questionMark; unit = Shown.Dash; number = numberOf Refusal.Line; sent = Shown.Dash; decision = Shown.Dash }
+
+unfoldable pub malformedText : List ℕ
+malformedText = rowText malformedRow ++ endText 0 0
+
+abbrev pub scriptText : Limits → Script → List ℕ
+scriptText l malformed = malformedText
+scriptText l (script h es) = playedText l h es
+
+-- a script that is too long is a malformed header
+unfoldable pub listing : Limits → List ℕ → List ℕ
+listing l s = cond (leb (length s) scriptSize) (scriptText l (parse s)) malformedText
+
+-- ---- the call: 1 and every byte as it was where the buffer is too short; else the listing's length, and its bytes before the buffer's own
+
+pub record Printed : Type 0 where
+  pub number : ℕ
+  pub length : ℕ
+  pub out : List ℕ
+
+abbrev pub printed : ℕ → ℕ → List ℕ → Printed
+printed k n out = record { number = k; length = n; out = out }
+
+abbrev pub over : List ℕ → List ℕ → List ℕ
+over text out = text ++ drop (length text) out
+
+unfoldable pub listingCall : Limits → List ℕ → List ℕ → Printed
+listingCall l s out =
+    cond (ltb (length out) maxListing) (printed (numberOf Refusal.Length) 0 out)
+    (printed (numberOf Refusal.None) (length (listing l s)) (over (listing l s) out))

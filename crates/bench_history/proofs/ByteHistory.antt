@@ -1,0 +1,230 @@
+-- A played script is a history over bytes: each accepted line is the call on its unit's own log and image. Assumes nothing.
+use Prim.Native.Nat.{ℕ, _≤_, _<_}
+use mathlib.Core.Path.{_≡_, refl, ap, _∙_}
+use mathlib.Core.Bool.{Bool, true, false, cond}
+use mathlib.Core.List.{List, [], _∷_, _++_, flatMap}
+use mathlib.Core.Option.{none, some}
+use native.Mathlib.Omega.{arith}
+use lib.Dec.{eqb}
+use lib.ListN.{length, getElem?, length-replicate}
+use borrow.Author.Tests.{eqb-true, eq-eqb, lt-ltb}
+use Rattle.tally.specs.Limits.{Limits, Sane, senders, logSize, imageSize, messageSize}
+use Rattle.tally.specs.Refusal.{numberOf}
+use Rattle.contents.specs.Messages.{messageOk}
+use Rattle.contents.specs.declared.Message.{Message}
+use Rattle.codec.specs.Formats.{Reading}
+use Rattle.codec.specs.Images.{imageBytes}
+use Rattle.codec.proofs.Letters.{engine-letter}
+use Rattle.consensus.specs.Methods.{propose, deliver}
+use Rattle.consensus.specs.Rows.{firstOf}
+use Rattle.consensus.specs.Units.{unitLog, unitImage}
+use Rattle.consensus.specs.declared.Power.{Power}
+use Rattle.consensus.specs.declared.Power.the-variants.{Down, Up}
+use Rattle.consensus.specs.declared.Unit as U
+use Rattle.consensus.proofs.Refusals.{propose-down}
+use Rattle.mileage.specs.Calls.{unitLengths, badSettings, logBytes, startCallRows, startCall, deliverCall}
+use Rattle.mileage.proofs.Encoded.{answered, read-message, propose-encoded, deliver-encoded}
+use Rattle.agreement.specs.Bytes as B
+use Rattle.agreement.specs.Contents as C
+use Rattle.agreement.specs.Demand3.{view}
+use Rattle.agreement.specs.Encoded.{sentBytes, Encodes}
+use Rattle.agreement.specs.Worlds.{Setup, run, Agreed}
+use Rattle.agreement.proofs.Encoding.{Valid, step-proposal, step-delivery, step-cut, step-off, step-on}
+use Rattle.agreement.proofs.Follows.{sent-at, sent-in}
+use Rattle.agreement.proofs.History.{Inv, run-append, run-inv, begun-inv}
+use Rattle.agreement.proofs.Refused.{has-log}
+use Rattle.agreement.proofs.Theorem.{valid, encodes-begun, demand-3}
+use Rattle.bench_script.specs.Script.{eventUnit, inRanges}
+use Rattle.bench_script.specs.declared.Event.{Event}
+use Rattle.bench_script.specs.declared.Header.{Header}
+use Rattle.bench_play.specs.Bench.{start, unitAt, messageAt}
+use Rattle.bench_play.specs.Play.{Played, delivery, answer, play}
+use Rattle.bench_play.specs.declared.Bench.{Bench}
+use Rattle.bench_play.specs.declared.Reply.{Reply}
+use Rattle.bench_history.specs.Answers.{unitAnswer}
+use Rattle.bench_history.specs.History.{setupOf, Below, isAccepted, ofAccepted, contentsEvent, zeros, byteEvent, history, byteHistory, Sized, Shows}
+use Rattle.bench_history.specs.History.{contentsAfter, startBytes, bytesAfter}
+use Rattle.bench_history.proofs.Accepted.{Accepts, delivered, cut-accepted, on-accepted, sent-at as bench-sent}
+use Rattle.bench_history.proofs.Rows.{row, sized-answer}
+use Rattle.bench_history.proofs.Settled.{by-answer}
+use Rattle.bench_history.proofs.Simulation.{line, units-high, settings-ok, start-sized, start-shows}
+
+-- ---- one event
+
+module _ (l : Limits) (sane : Sane l) (n : ℕ) (c : B.ByteWorld) (w : C.ContentsWorld) (enc : Encodes l n c w) (ok : Valid l n w) (u : ℕ) (below : u < n) where
+  abbrev Follows : B.Event → C.Event → Type 0
+  Follows x e = Encodes l n (B.step l n c x) (C.step l n w e)
+
+  out-size : length (zeros (messageSize l)) ≡ messageSize l
+  out-size = length-replicate (messageSize l) 0
+
+  up-image : w .units u .power ≡ Up → c .units u .image ≡ some (imageBytes l (unitImage (w .units u)))
+  up-image on = rw (enc .units u below, on)
+
+  no-image : w .units u .power ≡ Down → c .units u .image ≡ none
+  no-image off = rw (enc .units u below, off)
+
+  byte-proposal : (v : ℕ) → w .units u .power ≡ Up → Accepts (propose l (w .units u) v) → Follows (B.proposal u v (zeros (messageSize l))) (C.proposal u v)
+  unfolding B.step B.proposalOf
+  byte-proposal v on number =
+      rw (
+        lt-ltb u n below,
+        up-image on,
+        has-log l sane n w ok c enc u below,
+        propose-encoded l sane (w .units u) (ok .units u below) on v (zeros (messageSize l)) out-size,
+      )
+      (step-proposal l sane n c w enc ok u below on (zeros (messageSize l)) v number)
+
+  -- a delivery or a cut of it
+  module _ (k : ℕ) (m : Message) (there : getElem? (w .sent) k ≡ some m) (on : w .units u .power ≡ Up) (number : Accepts (deliver l (w .units u) m)) where
+    kept-ok : messageOk l m ≡ true
+    kept-ok = ok .sent m (sent-in (w .sent) k m there)
+
+    kept-bytes : getElem? (c .sent) k ≡ some (sentBytes l m)
+    kept-bytes = ap (λ ms. getElem? ms k) (enc .sent) ∙ sent-at l (w .sent) k ∙ rw there
+
+    kept-round : B.roundOf l (sentBytes l m) ≡ m .round
+    kept-round = ap (λ (r : Reading Message). r .contents .round) (read-message l sane m kept-ok .0)
+
+    called : deliverCall l (logBytes l (unitLog (w .units u))) (imageBytes l (unitImage (w .units u))) (sentBytes l m) (zeros (messageSize l))
+        ≡ answered l (deliver l (w .units u) m)
+    called = deliver-encoded l sane (w .units u) (ok .units u below) on m (zeros (messageSize l)) kept-ok out-size
+
+    byte-delivery : Follows (B.delivery u k (zeros (messageSize l))) (C.delivery u k)
+    unfolding B.step B.delivering
+    byte-delivery =
+        rw (lt-ltb u n below, up-image on, kept-bytes, has-log l sane n w ok c enc u below, called, kept-round)
+        (step-delivery l sane n c w enc ok u below on (zeros (messageSize l)) m kept-ok k there number)
+
+    byte-cut : Follows (B.cut u k (zeros (messageSize l))) (C.cut u k)
+    unfolding B.step B.delivering
+    byte-cut =
+        rw (lt-ltb u n below, up-image on, kept-bytes, has-log l sane n w ok c enc u below, called)
+        (step-cut l sane n c w enc ok u below on (zeros (messageSize l)) m kept-ok k there number)
+
+  byte-off : Follows (B.off u) (C.off u)
+  unfolding B.step
+  byte-off = rw (lt-ltb u n below) (step-off l sane n c w enc ok u below)
+
+  byte-on : w .units u .power ≡ Down → Follows (B.on u (zeros (imageSize l))) (C.on u)
+  unfolding B.step B.keyOnOf
+  byte-on off =
+      rw (lt-ltb u n below, no-image off, has-log l sane n w ok c enc u below)
+      (step-on l sane n c w enc ok u below off (zeros (imageSize l)) (length-replicate (imageSize l) 0))
+
+-- ---- one line
+
+-- an accepted proposal is to an up unit
+proposal-up : (l : Limits) (x : U.Unit) (v : ℕ) → Accepts (propose l x v) → x .power ≡ Up
+proposal-up l x v number = go (x .power) refl
+  where
+    go : (p : Power) → x .power ≡ p → p ≡ Up
+    go Up e = refl
+    go Down e = absurd (omega (arith, propose-down l x v e .number, number))
+
+-- what the bench accepts, its unit does
+accepts : (l : Limits) (b : Bench) (e : Event) → numberOf (answer l b e .refusal) ≡ 0 → Accepts (unitAnswer l b e)
+accepts l b e =
+    by-answer (λ (r : Reply). numberOf (r .refusal) ≡ 0 → Accepts (unitAnswer l b e)) l b e
+    (record {
+      refuses = λ some q. q;
+      quiet = λ ok empty q. ok;
+      full = λ ok some full q. ok;
+      sends = λ ok some room q. ok;
+    })
+
+module _ (l : Limits) (sane : Sane l) (n : ℕ) (b : Bench) (sized : Sized b) (rows : List Played) (w : C.ContentsWorld) (shows : Shows n b rows w)
+    (c : B.ByteWorld) (enc : Encodes l n c w) (ok : Valid l n w) where
+  byte-event : (e : Event) → eventUnit e < n → Accepts (unitAnswer l b e)
+      → Encodes l n (run (B.step l n) c (byteEvent l e)) (run (C.step l n) w (contentsEvent e))
+  unfolding run unitAnswer
+  byte-event Event.Malformed below number = absurd (omega (arith, number))
+  byte-event (Event.Propose u v) below number =
+      let same = shows .units u below in
+      byte-proposal l sane n c w enc ok u below v (rw same (proposal-up l (unitAt b u) v number)) (rw same number)
+  byte-event (Event.Deliver u k) below number =
+      let same = shows .units u below in
+      let d = delivered l b u k number in
+      byte-delivery l sane n c w enc ok u below k (messageAt b k) (bench-sent l n b sized rows w shows k (d .sent)) (rw same (d .up))
+      (rw (same, ← d .same) number)
+  byte-event (Event.Cut u k) below number =
+      let same = shows .units u below in
+      let a = cut-accepted (delivery l b u k) number .0 in
+      let d = delivered l b u k a in
+      byte-cut l sane n c w enc ok u below k (messageAt b k) (bench-sent l n b sized rows w shows k (d .sent)) (rw same (d .up))
+      (rw (same, ← d .same) a)
+  byte-event (Event.KeyOff u) below number = byte-off l sane n c w enc ok u below
+  byte-event (Event.KeyOn u) below number =
+      byte-on l sane n c w enc ok u below (rw (shows .units u below) (on-accepted (unitAt b u) number .0))
+
+  byte-line : (e : Event) → eventUnit e < n
+      → Encodes l n (run (B.step l n) c (ofAccepted (byteEvent l) (row e (answer l b e))))
+      (run (C.step l n) w (ofAccepted contentsEvent (row e (answer l b e))))
+  unfolding run
+  byte-line e below = go (eqb (numberOf (answer l b e .refusal)) 0) refl
+    where
+      go : (t : Bool) → eqb (numberOf (answer l b e .refusal)) 0 ≡ t
+          → Encodes l n (run (B.step l n) c (cond t (byteEvent l e) [])) (run (C.step l n) w (cond t (contentsEvent e) []))
+      go true q = byte-event e below (accepts l b e (eqb-true _ _ q))
+      go false q = enc
+
+-- ---- all lines
+
+module _ (l : Limits) (sane : Sane l) (s : Setup) (high : s .n ≤ senders) where
+  byte-lines : (es : List Event) → Below (s .n) es → (b : Bench) → Sized b → (rows : List Played) (w : C.ContentsWorld) → Shows (s .n) b rows w
+      → Inv l s w → (c : B.ByteWorld) → Encodes l (s .n) c w
+      → Encodes l (s .n) (run (B.step l (s .n)) c (byteHistory l b es)) (run (C.step l (s .n)) w (history l b es))
+  unfolding play history byteHistory run flatMap
+  byte-lines [] below b sized rows w shows inv c enc = enc
+  byte-lines (e ∷ es) below b sized rows w shows inv c enc =
+      let p = row e (answer l b e) in
+      rw (
+        run-append (B.step l (s .n)) c (ofAccepted (byteEvent l) p) (byteHistory l (answer l b e .bench) es),
+        run-append (C.step l (s .n)) w (ofAccepted contentsEvent p) (history l (answer l b e .bench) es),
+      )
+      (byte-lines es (below .1) (answer l b e .bench) (sized-answer l b sized e) (rows ++ (p ∷ [])) _ (line l (s .n) high b sized rows w shows e (below .0))
+      (run-inv l s w (ofAccepted contentsEvent p) inv) _ (byte-line l sane (s .n) b sized rows w shows c enc (valid l sane s w inv) e (below .0)))
+
+-- ---- the script
+
+-- no event of these is a call with other buffers
+lawful : (l : Limits) (n : ℕ) (rows : List Played) (c : B.ByteWorld) → B.Lawful l n c (flatMap (ofAccepted (byteEvent l)) rows)
+unfolding flatMap
+lawful l n [] c = tt
+lawful l n (p ∷ rows) c = go (isAccepted (p .reply)) (p .event) (lawful l n rows)
+  where
+    go : (t : Bool) (e : Event) → ((c : B.ByteWorld) → B.Lawful l n c (flatMap (ofAccepted (byteEvent l)) rows))
+        → B.Lawful l n c (cond t (byteEvent l e) [] ++ flatMap (ofAccepted (byteEvent l)) rows)
+    go true Event.Malformed later = later c
+    go true (Event.Propose u v) later = (tt, later _)
+    go true (Event.Deliver u k) later = (tt, later _)
+    go true (Event.Cut u k) later = (tt, later _)
+    go true (Event.KeyOff u) later = (tt, later _)
+    go true (Event.KeyOn u) later = (tt, later _)
+    go false e later = later c
+
+module _ (l : Limits) (sane : Sane l) (h : Header) (range : inRanges (h .n) (h .entry) ≡ true) where
+  pub started : (u : ℕ) → u < h .n → B.startOf l (setupOf h) (λ u. zeros (logSize l)) (λ u. zeros (imageSize l)) u .number ≡ 0
+  unfolding startCall startCallRows firstOf unitLengths badSettings
+  started u below =
+      rw (
+        eq-eqb (length (zeros (logSize l))) (logSize l) (length-replicate (logSize l) 0),
+        eq-eqb (length (zeros (imageSize l))) (imageSize l) (length-replicate (imageSize l) 0),
+        engine-letter (h .engine),
+        settings-ok h range u below,
+      )
+
+  module _ (es : List Event) (below : Below (h .n) es) where
+    pub byte-lawful : B.Lawful l (h .n) (startBytes l h) (byteHistory l (start h) es)
+    unfolding byteHistory
+    byte-lawful = lawful l (h .n) (play l (start h) es) (startBytes l h)
+
+    pub bytes-simulated : Encodes l (h .n) (bytesAfter l h es) (contentsAfter l h es)
+    unfolding contentsAfter bytesAfter
+    bytes-simulated =
+        byte-lines l sane (setupOf h) (units-high h range) es below (start h) (start-sized h) [] (C.begun (setupOf h)) (start-shows h range)
+        (begun-inv l (setupOf h) (settings-ok h range)) (startBytes l h) (encodes-begun l sane (setupOf h) _ _ started)
+
+    -- demand 3 of the script, as it stands
+    pub bytes-agreed : Agreed (setupOf h) (view l) (B.step l (h .n)) (startBytes l h) (byteHistory l (start h) es)
+    bytes-agreed = demand-3 l sane (setupOf h) _ _ started (byteHistory l (start h) es) byte-lawful

@@ -1,0 +1,11 @@
+pub mod Lists
+pub mod Settled
+pub mod Rows
+pub mod Accepted
+pub mod Simulation
+pub mod Decisions
+pub mod Numbers
+pub mod ByteHistory
+pub mod Rounds
+pub mod Theorem
+pub mod Scripts

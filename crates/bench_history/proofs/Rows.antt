@@ -1,0 +1,143 @@
+-- The rows of a played script, one by one: where each stands, how many send, and with which numbers. Assumes nothing.
+use Prim.Native.Nat.{ℕ, suc, _+_, _<_}
+use mathlib.Core.Path.{_≡_, refl, ap, _∙_}
+use mathlib.Core.Bool.{Bool, true, false, cond}
+use mathlib.Core.List.{List, [], _∷_, _++_, flatMap, List·Memᴰ, List·Memᴰ·cases-cons, List·Memᴰ·not-nil}
+use mathlib.Core.Logic.{_⊎_, inl, inr}
+use native.Mathlib.Numerals.{add-one}
+use native.Mathlib.Omega.{arith}
+use lib.Dec.{eqb}
+use lib.ListN.{length, getD, set, length-set}
+use lib.Seq.{getD-set-same, getD-set-other}
+use borrow.Author.Tests.{eqb-true, eqb-false}
+use Rattle.tally.specs.Count.{passing}
+use Rattle.tally.specs.Limits.{Limits, senders}
+use Rattle.tally.specs.Refusal.{numberOf}
+use Rattle.consensus.specs.declared.Unit as U
+use Rattle.bench_script.specs.Script.{eventUnit}
+use Rattle.bench_script.specs.declared.Event.{Event}
+use Rattle.bench_play.specs.Bench.{noUnit, unitAt, withUnit, withMessage}
+use Rattle.bench_play.specs.Play.{Played, answer, play, benchAfter}
+use Rattle.bench_play.specs.declared.Bench.{Bench}
+use Rattle.bench_play.specs.declared.Reply.{Reply}
+use Rattle.bench_play.specs.declared.Sent.{Sent}
+use Rattle.bench_history.specs.Answers.{unitAnswer}
+use Rattle.bench_history.specs.Claims.{Unchanged, hasSent, rising}
+use Rattle.bench_history.specs.History.{Below, Sized, sentNumbers}
+use Rattle.bench_history.proofs.Settled.{by-answer}
+
+-- a line and what it was answered
+abbrev pub row : Event → Reply → Played
+row e r = record { event = e; reply = r }
+
+-- ---- the bench
+
+-- the units after one is replaced
+pub unit-set : (b : Bench) (u : ℕ) (x : U.Unit) (v : ℕ) → u < length (b .units) → getD (set (b .units) u x) v noUnit ≡ cond (eqb v u) x (unitAt b v)
+unfolding unitAt
+unit-set b u x v h = go (eqb v u) refl
+  where
+    go : (t : Bool) → eqb v u ≡ t → getD (set (b .units) u x) v noUnit ≡ cond t x (getD (b .units) v noUnit)
+    go true e = rw (eqb-true v u e) (getD-set-same (b .units) u x noUnit h)
+    go false e = getD-set-other (b .units) u v x noUnit (eqb-false v u e)
+
+pub sized-answer : (l : Limits) (b : Bench) → Sized b → (e : Event) → Sized (answer l b e .bench)
+unfolding withUnit withMessage
+sized-answer l b sized e =
+    by-answer (λ r. Sized (r .bench)) l b e
+    (record {
+      refuses = λ some. sized;
+      quiet = λ ok empty. record { units = size; messages = sized .messages; kept = sized .kept };
+      full = λ ok some full. sized;
+      sends = λ ok some room.
+          record { units = size; messages = length-set (b .messages) (b .kept) _ ∙ sized .messages; kept = omega arith };
+    })
+  where
+    size : length (set (b .units) (eventUnit e) (unitAnswer l b e .unit)) ≡ senders
+    size = length-set (b .units) (eventUnit e) (unitAnswer l b e .unit) ∙ sized .units
+
+pub sized-after : (l : Limits) (es : List Event) (b : Bench) → Sized b → Sized (benchAfter l b es)
+unfolding benchAfter
+sized-after l [] b sized = sized
+sized-after l (e ∷ es) b sized = sized-after l es (answer l b e .bench) (sized-answer l b sized e)
+
+-- ---- a refused line
+
+-- of any bench and event
+pub refused-stays : (l : Limits) (b : Bench) (e : Event) → (numberOf (answer l b e .refusal) ≡ 0 → ⊥) → Unchanged b (answer l b e)
+refused-stays l b e =
+    by-answer (λ r. (numberOf (r .refusal) ≡ 0 → ⊥) → Unchanged b r) l b e
+    (record {
+      refuses = λ some n. record { bench = refl; sent = refl; decision = refl };
+      quiet = λ ok empty n. absurd (n refl);
+      full = λ ok some no n. record { bench = refl; sent = refl; decision = refl };
+      sends = λ ok some room n. absurd (n refl);
+    })
+
+-- ---- a row among the others
+
+-- a line of the script, after those before it
+pub record Line (l : Limits) (b : Bench) (es : List Event) (p : Played) : Type 0 where
+  pub before : List Event
+  pub after : List Event
+  pub split : es ≡ before ++ (p .event ∷ after)
+  pub reply : p .reply ≡ answer l (benchAfter l b before) (p .event)
+
+pub row-line : (l : Limits) (b : Bench) (es : List Event) (p : Played) → List·Memᴰ p (play l b es) → Line l b es p
+unfolding play benchAfter
+row-line l b [] p h = absurd (List·Memᴰ·not-nil h)
+row-line l b (e ∷ es) p h = go (List·Memᴰ·cases-cons h) (row-line l (answer l b e .bench) es p)
+  where
+    go : (p ≡ row e (answer l b e)) ⊎ List·Memᴰ p (play l (answer l b e .bench) es)
+        → (List·Memᴰ p (play l (answer l b e .bench) es) → Line l (answer l b e .bench) es p) → Line l b (e ∷ es) p
+    go (inl same) later = record { before = []; after = es; split = rw same; reply = rw same }
+    go (inr h) later =
+        let r = later h in
+        record { before = e ∷ r .before; after = r .after; split = ap (λ xs. e ∷ xs) (r .split); reply = r .reply }
+
+pub below-parts : (n : ℕ) (before : List Event) (e : Event) (after : List Event) → Below n (before ++ (e ∷ after))
+    → Below n before × (eventUnit e < n)
+below-parts n [] e after h = (tt, h .0)
+below-parts n (x ∷ before) e after h = let r = below-parts n before e after (h .1) in ((h .0, r .0), r .1)
+
+-- ---- counts
+
+-- the lines and the rows are as many
+pub as-many : (l : Limits) (b : Bench) (es : List Event) → length (play l b es) ≡ length es
+unfolding play
+as-many l b [] = refl
+as-many l b (e ∷ es) = ap suc (as-many l (answer l b e .bench) es)
+
+-- of a line's answer: nothing is sent, or the message of the next number
+abbrev Next : Bench → Reply → Type 0
+Next b r = ((r .sent ≡ Sent.Nothing) × (r .bench .kept ≡ b .kept)) ⊎ ((r .sent ≡ Sent.At (b .kept)) × (r .bench .kept ≡ b .kept + 1))
+
+next : (l : Limits) (b : Bench) (e : Event) → Next b (answer l b e)
+unfolding withUnit withMessage
+next l b e =
+    by-answer (Next b) l b e
+    (record {
+      refuses = λ some. inl (refl, refl);
+      quiet = λ ok empty. inl (refl, refl);
+      full = λ ok some no. inl (refl, refl);
+      sends = λ ok some room. inr (refl, refl);
+    })
+
+-- each row that sends takes the next place, of which it shows the number
+pub record Numbered (k : ℕ) (b : Bench) (rows : List Played) : Type 0 where
+  pub kept : b .kept ≡ k + passing hasSent rows
+  pub numbers : sentNumbers rows ≡ rising k (passing hasSent rows)
+
+pub numbered : (l : Limits) (b : Bench) (es : List Event) → Numbered (b .kept) (benchAfter l b es) (play l b es)
+unfolding play benchAfter sentNumbers flatMap
+numbered l b [] = record { kept = omega arith; numbers = refl }
+numbered l b (e ∷ es) = go (next l b e) (numbered l (answer l b e .bench) es)
+  where
+    go : Next b (answer l b e) → Numbered (answer l b e .bench .kept) (benchAfter l (answer l b e .bench) es) (play l (answer l b e .bench) es)
+        → Numbered (b .kept) (benchAfter l (answer l b e .bench) es) (row e (answer l b e) ∷ play l (answer l b e .bench) es)
+    go (inl q) r = record { kept = rw (q .0) (omega (arith, r .kept, q .1)); numbers = rw (q .0) (rw (q .1) at (r .numbers)) }
+    go (inr q) r =
+        record {
+          kept = rw (q .0) (omega (arith, r .kept, q .1));
+          numbers = rw (q .0) (ap (λ ks. b .kept ∷ ks) (rw (q .1, add-one) at (r .numbers)));
+        }

@@ -1,0 +1,68 @@
+-- A script that is read has a header in range, and events of its units. Assumes nothing.
+use Prim.Native.Nat.{ℕ, _≤_, _<_}
+use mathlib.Core.Path.{_≡_, refl, sym, ap, subst, _∙_}
+use mathlib.Core.Bool.{true}
+use mathlib.Core.List.{List, [], _∷_, _++_}
+use borrow.Author.Tests.{le-leb}
+use lib.ListN.{length}
+use Rattle.tally.specs.Count.{passing}
+use Rattle.tally.specs.Limits.{Limits, Sane, scriptSize}
+use Rattle.bench_script.specs.Parts.{newline, parted}
+use Rattle.bench_script.specs.Script.{inRanges, headerOf, eventsOf, Script, malformed, script, withHeader, fromLines, parse}
+use Rattle.bench_script.specs.declared.Event.{Event}
+use Rattle.bench_script.specs.declared.Header.{Header}
+use Rattle.bench_script.specs.declared.HeaderRead.{HeaderRead}
+use Rattle.bench_script.proofs.EventLines.{event-unit}
+use Rattle.bench_script.proofs.HeaderLines.{header-range}
+use Rattle.bench_text.specs.Text.{endText}
+use Rattle.bench.specs.Listing.{rowsText, headerLine, playedText, scriptText, listing}
+use Rattle.bench_history.specs.Claims.{hasSent}
+use Rattle.bench_history.specs.Covered.{rows, Covered}
+use Rattle.bench_history.specs.History.{Below}
+use Rattle.bench_history.proofs.Simulation.{units-some}
+use Rattle.bench_history.proofs.Theorem.{covered}
+
+-- ---- its events and its header
+
+of-lines : (n : ℕ) → 0 < n → (ps : List (List ℕ)) → Below n (eventsOf n ps)
+unfolding eventsOf
+of-lines n some [] = tt
+of-lines n some ([] ∷ []) = tt
+of-lines n some ((b ∷ s) ∷ []) = (some, tt)
+of-lines n some (p ∷ q ∷ ps) = (event-unit n p some, of-lines n some (q ∷ ps))
+
+abbrev InRange : Header → Type 0
+InRange h = inRanges (h .n) (h .entry) ≡ true
+
+-- ---- the script
+
+abbrev ScriptIn : Script → Type 0
+ScriptIn malformed = Unit
+ScriptIn (script h es) = InRange h × Below (h .n) es
+
+script-in : (s : List ℕ) → ScriptIn (parse s)
+unfolding parse
+script-in s = lines (parted newline s)
+  where
+    read : (l : List ℕ) (r : HeaderRead) → headerOf l ≡ r → (ps : List (List ℕ)) → ScriptIn (withHeader r ps)
+    read l (HeaderRead.Is h) e ps = let range = header-range l h e in (range, of-lines (h .n) (units-some h range) ps)
+    read l HeaderRead.Malformed e ps = tt
+
+    lines : (ls : List (List ℕ)) → ScriptIn (fromLines ls)
+    lines [] = tt
+    lines (l ∷ []) = tt
+    lines (l ∷ p ∷ ps) = read l (headerOf l) refl (p ∷ ps)
+
+-- every script that is read is covered
+pub covered-script : (l : Limits) → Sane l → (s : List ℕ) (h : Header) (es : List Event) → parse s ≡ script h es → Covered l h es
+covered-script l sane s h es e =
+    let i : ScriptIn (script h es) = subst ScriptIn e (script-in s) in
+    covered l sane h (i .0) es (i .1)
+
+-- its listing has the header, a line for each row, and on the final line how many rows there are and how many of them sent a message
+pub listed : (l : Limits) → Sane l → (s : List ℕ) (h : Header) (es : List Event) → length s ≤ scriptSize → parse s ≡ script h es
+    → listing l s ≡ headerLine h ++ (rowsText 1 (rows l h es) ++ endText (length (rows l h es)) (passing hasSent (rows l h es)))
+unfolding listing playedText
+listed l sane s h es short e =
+    let c = covered-script l sane s h es e in
+    rw (le-leb (length s) scriptSize short, e, c .as-many, ← c .kept)

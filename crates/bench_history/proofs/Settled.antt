@@ -1,0 +1,86 @@
+-- An answer of the bench, by cases; and what a refused line leaves. Assumes nothing.
+use Prim.Native.Nat.{ℕ, _≤_, _<_}
+use mathlib.Core.Path.{_≡_, refl, sym, ap, _∙_}
+use mathlib.Core.Bool.{Bool, true, false, cond}
+use mathlib.Core.List.{List}
+use lib.Dec.{eqb, leb}
+use borrow.Author.Tests.{eqb-true, eqb-false, leb-true, leb-false}
+use Rattle.tally.specs.Limits.{Limits, places}
+use Rattle.tally.specs.Refusal.{numberOf}
+use Rattle.tally.specs.declared.Refusal.{Refusal}
+use Rattle.tally.proofs.Never.{never}
+use Rattle.contents.specs.declared.Kind.{Kind}
+use Rattle.contents.specs.declared.Kind.the-variants.{Empty, First, Check, Second, Skip}
+use Rattle.consensus.specs.Methods.{refuses, unless}
+use Rattle.consensus.specs.Rows.{Row, firstOf}
+use Rattle.consensus.specs.declared.Answer.{Answer}
+use Rattle.consensus.specs.declared.Unit as U
+use Rattle.bench_script.specs.Script.{eventUnit}
+use Rattle.bench_script.specs.declared.Event.{Event}
+use Rattle.bench_play.specs.Bench.{refused, accepted, noPlaceLeft, withUnit, withMessage, isEmpty, send, settle}
+use Rattle.bench_play.specs.Play.{answer}
+use Rattle.bench_play.specs.declared.Bench.{Bench}
+use Rattle.bench_play.specs.declared.Reply.{Reply}
+use Rattle.bench_play.specs.declared.Sent.{Sent}
+use Rattle.bench_history.specs.Answers.{unitAnswer}
+
+is-empty : (k : Kind) → isEmpty k ≡ true → k ≡ Empty
+is-empty Empty h = refl
+is-empty First h = never h
+is-empty Check h = never h
+is-empty Second h = never h
+is-empty Skip h = never h
+
+not-empty : (k : Kind) → isEmpty k ≡ false → k ≡ Empty → ⊥
+not-empty k h e = never (sym h ∙ ap isEmpty e)
+
+-- the bench's answer to an answer a of unit u
+pub record Settling (P : Reply → Type 0) (b : Bench) (u : ℕ) (a : Answer) : Type 0 where
+  pub refuses : (numberOf (a .refusal) ≡ 0 → ⊥) → P (refused b (a .refusal))
+  pub quiet : numberOf (a .refusal) ≡ 0 → a .message .kind ≡ Empty → P (accepted (withUnit b u (a .unit)) Sent.Nothing (a .decision))
+  pub full : numberOf (a .refusal) ≡ 0 → (a .message .kind ≡ Empty → ⊥) → places ≤ b .kept → P (refused b Refusal.Full)
+  pub sends : numberOf (a .refusal) ≡ 0 → (a .message .kind ≡ Empty → ⊥) → b .kept < places
+      → P (accepted (withMessage (withUnit b u (a .unit)) (a .message)) (Sent.At (b .kept)) (a .decision))
+
+pub by-settle : (P : Reply → Type 0) (b : Bench) (u : ℕ) (a : Answer) → Settling P b u a → P (settle b u a)
+unfolding settle send noPlaceLeft
+by-settle P b u a s = number (eqb (numberOf (a .refusal)) 0) refl
+  where
+    place : numberOf (a .refusal) ≡ 0 → (a .message .kind ≡ Empty → ⊥) → (t : Bool) → leb places (b .kept) ≡ t
+        → P (cond t (refused b Refusal.Full) (accepted (withMessage (withUnit b u (a .unit)) (a .message)) (Sent.At (b .kept)) (a .decision)))
+    place zero some true e = s .full zero some (leb-true _ _ e)
+    place zero some false e = s .sends zero some (leb-false _ _ e)
+
+    kind : numberOf (a .refusal) ≡ 0 → (t : Bool) → isEmpty (a .message .kind) ≡ t
+        → P (cond t (accepted (withUnit b u (a .unit)) Sent.Nothing (a .decision)) (send b u a))
+    kind zero true e = s .quiet zero (is-empty _ e)
+    kind zero false e = place zero (not-empty _ e) (leb places (b .kept)) refl
+
+    number : (t : Bool) → eqb (numberOf (a .refusal)) 0 ≡ t
+        → P (cond t (cond (isEmpty (a .message .kind)) (accepted (withUnit b u (a .unit)) Sent.Nothing (a .decision)) (send b u a)) (refused b (a .refusal)))
+    number true e = kind (eqb-true _ _ e) (isEmpty (a .message .kind)) refl
+    number false e = s .refuses (eqb-false _ _ e)
+
+-- the answer to every event is that to its unit's answer
+pub answer-settles : (l : Limits) (b : Bench) (e : Event) → answer l b e ≡ settle b (eventUnit e) (unitAnswer l b e)
+unfolding answer unitAnswer settle
+answer-settles l b Event.Malformed = refl
+answer-settles l b (Event.Propose u v) = refl
+answer-settles l b (Event.Deliver u k) = refl
+answer-settles l b (Event.Cut u k) = refl
+answer-settles l b (Event.KeyOff u) = refl
+answer-settles l b (Event.KeyOn u) = refl
+
+pub by-answer : (P : Reply → Type 0) (l : Limits) (b : Bench) (e : Event) → Settling P b (eventUnit e) (unitAnswer l b e) → P (answer l b e)
+by-answer P l b e s = rw (answer-settles l b e) (by-settle P b (eventUnit e) (unitAnswer l b e) s)
+
+-- a method whose number is 0 is the step's answer
+pub unless-accepts : (rows : List Row) (u : U.Unit) (a : Answer) → numberOf (unless rows u a .refusal) ≡ 0
+    → (numberOf (firstOf rows) ≡ 0) × (unless rows u a ≡ a)
+unfolding unless
+unless-accepts rows u a = go (eqb (numberOf (firstOf rows)) 0) refl
+  where
+    go : (t : Bool) → eqb (numberOf (firstOf rows)) 0 ≡ t → numberOf (cond t a (refuses u (firstOf rows)) .refusal) ≡ 0
+        → (numberOf (firstOf rows) ≡ 0) × (cond t a (refuses u (firstOf rows)) ≡ a)
+    go true e h = (eqb-true _ _ e, refl)
+    go false e h = absurd (eqb-false _ _ e h)

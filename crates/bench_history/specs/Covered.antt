@@ -1,0 +1,65 @@
+-- Everything that is claimed of a played script, in one record. Assumes nothing.
+use Prim.Native.Nat.{ℕ, _≤_, _<_}
+use mathlib.Core.Path.{_≡_}
+use mathlib.Core.List.{List, _∷_, _++_, List·Memᴰ}
+use lib.ListN.{length}
+use Rattle.tally.specs.Count.{passing}
+use Rattle.tally.specs.Limits.{Limits, places, logSize, imageSize}
+use Rattle.tally.specs.Refusal.{numberOf}
+use Rattle.tally.specs.declared.Estimate.the-variants.{Mileage}
+use Rattle.tally.specs.declared.Refusal.{Refusal}
+use Rattle.agreement.specs.Bytes as B
+use Rattle.agreement.specs.Demand3.{view}
+use Rattle.agreement.specs.Encoded.{Encodes}
+use Rattle.agreement.specs.Worlds.{Agreed}
+use Rattle.bench_script.specs.declared.Event.{Event}
+use Rattle.bench_script.specs.declared.Header.{Header}
+use Rattle.bench_play.specs.Bench.{start}
+use Rattle.bench_play.specs.Play.{Played, answer, play, benchAfter}
+use Rattle.bench_play.specs.declared.Bench.{Bench}
+use Rattle.bench_history.specs.Answers.{WouldSend}
+use Rattle.bench_history.specs.Claims.{Unchanged, ProposedIn, NoPlace, hasSent, rising, met}
+use Rattle.bench_history.specs.History.{setupOf, zeros, byteHistory, sentNumbers, Sized, Shows, contentsAfter, startBytes, bytesAfter}
+
+abbrev pub after : Limits → Header → List Event → Bench
+after l h es = benchAfter l (start h) es
+
+abbrev pub rows : Limits → Header → List Event → List Played
+rows l h es = play l (start h) es
+
+-- a fact of each line, given the lines before it
+abbrev pub EachLine : List Event → (List Event → Event → Type 0) → Type 0
+EachLine es P = (before later : List Event) (e : Event) → es ≡ before ++ (e ∷ later) → P before e
+
+-- of the header h and the events es
+pub record Covered (l : Limits) (h : Header) (es : List Event) : Type 0 where
+  pub sized : Sized (after l h es)
+  -- the accepted lines are a history over contents, whose units, messages, proposals and decisions are the bench's
+  pub contents : Shows (h .n) (after l h es) (rows l h es) (contentsAfter l h es)
+  -- and a lawful one over bytes, from units that are started, whose bytes are those of these contents
+  pub started : (u : ℕ) → u < h .n → B.startOf l (setupOf h) (λ u. zeros (logSize l)) (λ u. zeros (imageSize l)) u .number ≡ 0
+  pub lawful : B.Lawful l (h .n) (startBytes l h) (byteHistory l (start h) es)
+  pub bytes : Encodes l (h .n) (bytesAfter l h es) (contentsAfter l h es)
+  -- so that demand 3 holds of it
+  pub agreed : Agreed (setupOf h) (view l) (B.step l (h .n)) (startBytes l h) (byteHistory l (start h) es)
+  -- any two decisions shown are the same
+  pub decisions-same : (p q : Played) → List·Memᴰ p (rows l h es) → List·Memᴰ q (rows l h es) → (v w : ℕ)
+      → p .reply .decision ≡ Mileage v
+      → q .reply .decision ≡ Mileage w
+      → v ≡ w
+  -- each was proposed on an earlier line
+  pub decision-proposed : EachLine es (λ before e.
+      (v : ℕ) → answer l (after l h before) e .decision ≡ Mileage v → ProposedIn v (rows l h before))
+  -- 11 exactly where no place is left for a message
+  pub full-only : EachLine es (λ before e. answer l (after l h before) e .refusal ≡ Refusal.Full → NoPlace l (after l h before) e)
+  pub full-met : EachLine es (λ before e.
+      WouldSend l (after l h before) e → after l h before .kept ≡ places → answer l (after l h before) e .refusal ≡ Refusal.Full)
+  -- a refused line changes nothing
+  pub refused-stays : EachLine es (λ before e.
+      (numberOf (answer l (after l h before) e .refusal) ≡ 0 → ⊥) → Unchanged (after l h before) (answer l (after l h before) e))
+  -- a row for each line; as many messages kept as rows that sent one, and their numbers are 0, 1, 2 and so on
+  pub as-many : length (rows l h es) ≡ length es
+  pub kept : after l h es .kept ≡ passing hasSent (rows l h es)
+  pub numbers : sentNumbers (rows l h es) ≡ rising 0 (after l h es .kept)
+  -- where rounds go up to 128 or above, 1 to 4 and 7 are never met
+  pub numbers-met : places ≤ l .lastRound → (p : Played) → List·Memᴰ p (rows l h es) → List·Memᴰ (numberOf (p .reply .refusal)) met

@@ -1,0 +1,132 @@
+-- A played script as a history of crate agreement: the events of its accepted lines. Assumes nothing.
+use Prim.Native.Nat.{ℕ, _≤_, _<_}
+use mathlib.Core.Path.{_≡_}
+use mathlib.Core.Bool.{Bool, cond}
+use mathlib.Core.List.{List, [], _∷_, map, flatMap}
+use lib.Dec.{eqb}
+use lib.ListN.{length, take, replicate}
+use Rattle.tally.specs.Limits.{Limits, places, senders, logSize, imageSize, messageSize}
+use Rattle.tally.specs.Refusal.{numberOf}
+use Rattle.tally.specs.declared.Estimate.{Estimate}
+use Rattle.tally.specs.declared.Estimate.the-variants.{Blank, Split, Mileage}
+use Rattle.agreement.specs.Bytes as B
+use Rattle.agreement.specs.Contents as C
+use Rattle.agreement.specs.Worlds.{Setup, Proposal, Decision, run}
+use Rattle.bench_script.specs.Script.{eventUnit}
+use Rattle.bench_script.specs.declared.Event.{Event}
+use Rattle.bench_script.specs.declared.Header.{Header}
+use Rattle.bench_play.specs.Bench.{start, unitAt}
+use Rattle.bench_play.specs.Play.{Played, play}
+use Rattle.bench_play.specs.declared.Bench.{Bench}
+use Rattle.bench_play.specs.declared.Reply.{Reply}
+use Rattle.bench_play.specs.declared.Sent.{Sent}
+
+abbrev pub setupOf : Header → Setup
+setupOf h = record { engine = h .engine; n = h .n; entry = h .entry }
+
+-- each event's unit is below n
+abbrev pub Below : ℕ → List Event → Type 0
+Below n [] = Unit
+Below n (e ∷ es) = (eventUnit e < n) × Below n es
+
+-- ---- the events of agreement
+
+abbrev pub isAccepted : Reply → Bool
+isAccepted r = eqb (numberOf (r .refusal)) 0
+
+-- what f gives of an accepted line's event; of a refused line nothing
+abbrev pub ofAccepted : {A : Type 0} → (Event → List A) → Played → List A
+ofAccepted f p = cond (isAccepted (p .reply)) (f (p .event)) []
+
+-- over contents; a malformed line is none
+abbrev pub contentsEvent : Event → List C.Event
+contentsEvent Event.Malformed = []
+contentsEvent (Event.Propose u v) = C.proposal u v ∷ []
+contentsEvent (Event.Deliver u k) = C.delivery u k ∷ []
+contentsEvent (Event.Cut u k) = C.cut u k ∷ []
+contentsEvent (Event.KeyOff u) = C.off u ∷ []
+contentsEvent (Event.KeyOn u) = C.on u ∷ []
+
+abbrev pub zeros : ℕ → List ℕ
+zeros k = replicate k 0
+
+-- over bytes: each is the call on the unit's own log and image, with an output or image buffer of the right length
+abbrev pub byteEvent : Limits → Event → List B.Event
+byteEvent l Event.Malformed = []
+byteEvent l (Event.Propose u v) = B.proposal u v (zeros (messageSize l)) ∷ []
+byteEvent l (Event.Deliver u k) = B.delivery u k (zeros (messageSize l)) ∷ []
+byteEvent l (Event.Cut u k) = B.cut u k (zeros (messageSize l)) ∷ []
+byteEvent l (Event.KeyOff u) = B.off u ∷ []
+byteEvent l (Event.KeyOn u) = B.on u (zeros (imageSize l)) ∷ []
+
+-- in the order of the lines
+unfoldable pub history : Limits → Bench → List Event → List C.Event
+history l b es = flatMap (ofAccepted contentsEvent) (play l b es)
+
+unfoldable pub byteHistory : Limits → Bench → List Event → List B.Event
+byteHistory l b es = flatMap (ofAccepted (byteEvent l)) (play l b es)
+
+-- ---- what the rows show
+
+-- the accepted proposals, in order
+abbrev pub proposalOf : Event → List Proposal
+proposalOf Event.Malformed = []
+proposalOf (Event.Propose u v) = record { unit = u; mileage = v } ∷ []
+proposalOf (Event.Deliver u k) = []
+proposalOf (Event.Cut u k) = []
+proposalOf (Event.KeyOff u) = []
+proposalOf (Event.KeyOn u) = []
+
+unfoldable pub proposals : List Played → List Proposal
+proposals rows = flatMap (ofAccepted proposalOf) rows
+
+-- the decisions shown, in order: a mileage, and the unit of the line
+pub record Decided : Type 0 where
+  pub unit : ℕ
+  pub mileage : ℕ
+
+abbrev pub decidedOf : ℕ → Estimate → List Decided
+decidedOf u Blank = []
+decidedOf u Split = []
+decidedOf u (Mileage v) = record { unit = u; mileage = v } ∷ []
+
+unfoldable pub decisions : List Played → List Decided
+decisions rows = flatMap (λ (p : Played). decidedOf (eventUnit (p .event)) (p .reply .decision)) rows
+
+-- a decision of agreement, without its round
+abbrev pub withoutRound : Decision → Decided
+withoutRound d = record { unit = d .unit; mileage = d .mileage }
+
+-- the message numbers shown, in order
+abbrev pub sentOf : Sent → List ℕ
+sentOf Sent.Nothing = []
+sentOf (Sent.At k) = k ∷ []
+
+unfoldable pub sentNumbers : List Played → List ℕ
+sentNumbers rows = flatMap (λ (p : Played). sentOf (p .reply .sent)) rows
+
+-- ---- the bench and the worlds
+
+-- 16 units and 128 places, as the code's types say, of which at most 128 are filled
+pub record Sized (b : Bench) : Type 0 where
+  pub units : length (b .units) ≡ senders
+  pub messages : length (b .messages) ≡ places
+  pub kept : b .kept ≤ places
+
+-- the world w is the bench b after the rows: the same units below n, messages, proposals and decisions
+pub record Shows (n : ℕ) (b : Bench) (rows : List Played) (w : C.ContentsWorld) : Type 0 where
+  pub units : (u : ℕ) → u < n → w .units u ≡ unitAt b u
+  pub sent : w .sent ≡ take (b .kept) (b .messages)
+  pub proposed : w .proposed ≡ proposals rows
+  pub decided : map withoutRound (w .decided) ≡ decisions rows
+
+-- the world after a script
+unfoldable pub contentsAfter : Limits → Header → List Event → C.ContentsWorld
+contentsAfter l h es = run (C.step l (h .n)) (C.begun (setupOf h)) (history l (start h) es)
+
+-- at the start each unit is started in buffers of zeros
+abbrev pub startBytes : Limits → Header → B.ByteWorld
+startBytes l h = B.begun l (setupOf h) (λ u. zeros (logSize l)) (λ u. zeros (imageSize l))
+
+unfoldable pub bytesAfter : Limits → Header → List Event → B.ByteWorld
+bytesAfter l h es = run (B.step l (h .n)) (startBytes l h) (byteHistory l (start h) es)

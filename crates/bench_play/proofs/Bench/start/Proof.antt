@@ -1,0 +1,13 @@
+use Rattle.bench_play.specs.Bench.{start}
+use borrow.Author.Needs.{needs}
+use Rattle.bench_play.proofs.Bench.start.Statement.{statement}
+use Rattle.bench_play.proofs.Bench.start.Tie as tie
+
+pub start-spec : {M : Type 1} → statement M
+unfolding start
+start-spec =
+    tie.close
+    (tie.spec
+    (λ c κs. search needs)
+    (λ c κs. search needs)
+    (λ c. rw (c .before .fresh-units .ensures, c .empty-message .ensures)))

@@ -1,0 +1,99 @@
+-- The bench: its units and its message places. Assumes nothing.
+use Prim.Native.Nat.{ℕ, zero, suc, _+_}
+use mathlib.Core.Bool.{Bool, true, false, cond}
+use mathlib.Core.List.{List, [], _∷_, _++_}
+use lib.Dec.{leb, eqb}
+use lib.ListN.{getD, set, replicate}
+use Rattle.tally.specs.Limits.{places, senders}
+use Rattle.tally.specs.Refusal.{numberOf}
+use Rattle.tally.specs.declared.Engine.the-variants.{B}
+use Rattle.tally.specs.declared.Estimate.{Estimate}
+use Rattle.tally.specs.declared.Estimate.the-variants.{Blank}
+use Rattle.tally.specs.declared.Refusal.{Refusal}
+use Rattle.contents.specs.declared.Kind.{Kind}
+use Rattle.contents.specs.declared.Kind.the-variants.{Empty, First, Check, Second, Skip}
+use Rattle.contents.specs.declared.Message.{Message}
+use Rattle.contents.specs.declared.Settings.{Settings}
+use Rattle.contents.specs.declared.State.{State}
+use Rattle.consensus.specs.Step.{emptyMessage, fresh, clean}
+use Rattle.consensus.specs.declared.Answer.{Answer}
+use Rattle.consensus.specs.declared.Power.the-variants.{Down}
+use Rattle.consensus.specs.declared.Unit as U
+use Rattle.bench_script.specs.declared.Header.{Header}
+use Rattle.bench_play.specs.declared.Bench.{Bench}
+use Rattle.bench_play.specs.declared.Reply.{Reply}
+use Rattle.bench_play.specs.declared.Sent.{Sent}
+
+-- ---- at the start
+
+abbrev pub settingsOf : Header → ℕ → Settings
+settingsOf h u = record { engine = h .engine; n = h .n; unit = u; entry = h .entry }
+
+-- the first k units, all up and fresh
+unfoldable pub freshUnits : Header → ℕ → List U.Unit
+freshUnits h zero = []
+freshUnits h (suc k) = freshUnits h k ++ (fresh (settingsOf h k) ∷ [])
+
+-- 128 message places, all empty; the units from n on are no event's
+unfoldable pub start : Header → Bench
+start h = record { units = freshUnits h senders; messages = replicate places emptyMessage; kept = 0 }
+
+-- ---- units and messages by number
+
+-- what there would be past the last unit; no event has such a number
+abbrev pub noUnit : U.Unit
+noUnit =
+    record {
+      power = Down;
+      settings = record { engine = B; n = 0; unit = 0; entry = 0 };
+      logged = clean 0 Blank;
+      current = clean 0 Blank;
+      checks = record { marks = 0; cells = [] };
+      seconds = record { marks = 0; cells = [] };
+    }
+
+unfoldable pub unitAt : Bench → ℕ → U.Unit
+unitAt b u = getD (b .units) u noUnit
+
+-- messages are numbered from 0; past the places there is none
+unfoldable pub messageAt : Bench → ℕ → Message
+messageAt b k = getD (b .messages) k emptyMessage
+
+-- ---- answers
+
+-- a refused event changes nothing, sends nothing and decides nothing
+abbrev pub refused : Bench → Refusal → Reply
+refused b k = record { bench = b; refusal = k; sent = Sent.Nothing; decision = Blank }
+
+abbrev pub accepted : Bench → Sent → Estimate → Reply
+accepted b s d = record { bench = b; refusal = Refusal.None; sent = s; decision = d }
+
+-- 11: no place is left for a message of unit u
+unfoldable pub noPlaceLeft : Bench → ℕ → Bool
+noPlaceLeft b u = leb places (b .kept)
+
+-- unit u is x from now on
+unfoldable pub withUnit : Bench → ℕ → U.Unit → Bench
+withUnit b u x = record { units = set (b .units) u x; messages = b .messages; kept = b .kept }
+
+-- a message takes the next place: places are filled from the front, and nothing is removed
+unfoldable pub withMessage : Bench → Message → Bench
+withMessage b m = record { units = b .units; messages = set (b .messages) (b .kept) m; kept = b .kept + 1 }
+
+abbrev pub isEmpty : Kind → Bool
+isEmpty Empty = true
+isEmpty First = false
+isEmpty Check = false
+isEmpty Second = false
+isEmpty Skip = false
+
+-- 11 is last, and refuses the whole event
+unfoldable pub send : Bench → ℕ → Answer → Reply
+send b u a = cond (noPlaceLeft b u) (refused b Refusal.Full) (accepted (withMessage (withUnit b u (a .unit)) (a .message)) (Sent.At (b .kept)) (a .decision))
+
+-- what unit u's answer makes of the bench
+unfoldable pub settle : Bench → ℕ → Answer → Reply
+settle b u a =
+    cond (eqb (numberOf (a .refusal)) 0)
+    (cond (isEmpty (a .message .kind)) (accepted (withUnit b u (a .unit)) Sent.Nothing (a .decision)) (send b u a))
+    (refused b (a .refusal))

@@ -1,0 +1,16 @@
+use native.Mathlib.Omega.{arith}
+use borrow.Author.Needs.{needs}
+use Rattle.bench_script.proofs.HeaderLines.{ranges}
+use Rattle.bench_script.proofs.headers.with_engine.Statement.{statement}
+use Rattle.bench_script.proofs.headers.with_engine.Tie as tie
+
+pub with-engine-spec : {M : Type 1} → statement M
+with-engine-spec =
+    tie.close
+    (tie.spec
+    (λ c. search needs)
+    (λ c. let a = c .before .before .before in omega (arith, ranges (a .args .n) (a .args .entry) (a .pre)))
+    (λ c. let a = c .before .before .before in omega (arith, ranges (a .args .n) (a .args .entry) (a .pre)))
+    (λ c. search needs)
+    (λ c. cc)
+    (λ c. search needs))

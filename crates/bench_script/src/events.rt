@@ -1,0 +1,97 @@
+// The event of a line.
+use super::Event;
+use super::Number;
+use super::Pair;
+use super::numbers;
+use super::parts;
+ghost use mathlib.Core.Path.{_≡_};
+ghost use Rattle.bench_script.specs.Parts.{comma, parted};
+ghost use Rattle.bench_script.specs.Script.{oneOf, twoOf, unitBelow, pairBelow, byLetter, eventOf};
+
+// A unit number of n or more is malformed.
+fn unit_below(n: u8, a: Number) -> Number
+    ensures { λ r. ⌜ r ≡ unitBelow n a ⌝ }
+{
+    match a {
+        Number::Is(u) => {
+            if u < n as u32 {
+                Number::Is(u)
+            } else {
+                Number::Malformed
+            }
+        }
+        Number::Malformed => Number::Malformed,
+    }
+}
+
+fn pair_below(n: u8, p: Pair) -> Pair
+    ensures { λ r. ⌜ r ≡ pairBelow n p ⌝ }
+{
+    match p {
+        Pair::Are(u, x) => {
+            if u < n as u32 {
+                Pair::Are(u, x)
+            } else {
+                Pair::Malformed
+            }
+        }
+        Pair::Malformed => Pair::Malformed,
+    }
+}
+
+// The unit that the rest of a line says.
+fn unit_of(n: u8, rest: &[u8]) -> Number
+    ensures { λ r. ⌜ r ≡ unitBelow n (oneOf (parted comma (now (rest .entry)))) ⌝ }
+{
+    unit_below(n, numbers::one(rest))
+}
+
+// The unit, and a mileage or a message number.
+fn pair_of(n: u8, rest: &[u8]) -> Pair
+    ensures { λ r. ⌜ r ≡ pairBelow n (twoOf (parted comma (now (rest .entry)))) ⌝ }
+{
+    pair_below(n, numbers::two(rest))
+}
+
+// The script letter decides the event.
+fn by_letter(n: u8, letter: u8, rest: &[u8]) -> Event
+    ensures { λ r. ⌜ r ≡ byLetter n letter (parted comma (now (rest .entry))) ⌝ }
+{
+    match letter {
+        b'P' => match pair_of(n, rest) {
+            Pair::Are(u, v) => Event::Propose(u, v),
+            Pair::Malformed => Event::Malformed,
+        },
+        b'D' => match pair_of(n, rest) {
+            Pair::Are(u, k) => Event::Deliver(u, k),
+            Pair::Malformed => Event::Malformed,
+        },
+        b'W' => match pair_of(n, rest) {
+            Pair::Are(u, k) => Event::Cut(u, k),
+            Pair::Malformed => Event::Malformed,
+        },
+        b'K' => match unit_of(n, rest) {
+            Number::Is(u) => Event::KeyOff(u),
+            Number::Malformed => Event::Malformed,
+        },
+        b'U' => match unit_of(n, rest) {
+            Number::Is(u) => Event::KeyOn(u),
+            Number::Malformed => Event::Malformed,
+        },
+        _ => Event::Malformed,
+    }
+}
+
+// A line's event, without its byte 10.
+pub fn event(n: u8, line: &[u8]) -> Event
+    ensures { λ r. ⌜ r ≡ eventOf n (now (line .entry)) ⌝ }
+{
+    if line.len() < 2 {
+        return Event::Malformed;
+    }
+    if line[1] == parts::COMMA {
+        by_letter(n, line[0], &line[2..])
+    } else {
+        Event::Malformed
+    }
+}

@@ -1,0 +1,118 @@
+// The numbers of a script.
+use super::Number;
+use super::Pair;
+use super::parts;
+ghost use mathlib.Core.Path.{_≡_};
+ghost use mathlib.Core.Bool.{true};
+ghost use Prim.Native.Nat.{_≤_};
+ghost use lib.ListN.{length};
+ghost use Rattle.bench_script.specs.Numbers.{maxDigits, isDigit, allDigits, leadingZero, valueFrom, numberOf};
+ghost use Rattle.bench_script.specs.Parts.{comma, parted};
+ghost use Rattle.bench_script.specs.Script.{both, oneOf, twoOf};
+
+const MAX_DIGITS: usize = 10;
+
+const MAX_NUMBER: u64 = 4294967295;
+
+fn is_digit(b: u8) -> bool
+    ensures { λ r. ⌜ r ≡ isDigit b ⌝ }
+{
+    (b'0' <= b) & (b <= b'9')
+}
+
+fn all_digits(s: &[u8]) -> bool
+    ensures { λ r. ⌜ r ≡ allDigits (now (s .entry)) ⌝ }
+{
+    let mut i: usize = 0;
+    while i < s.len() {
+        if !is_digit(s[i]) {
+            return false;
+        }
+        i += 1;
+    }
+    true
+}
+
+// 0 by itself is fine.
+fn leading_zero(s: &[u8]) -> bool
+    ensures { λ r. ⌜ r ≡ leadingZero (now (s .entry)) ⌝ }
+{
+    if s.len() < 2 { false } else { s[0] == b'0' }
+}
+
+fn wide(b: u8) -> u64
+    ensures { λ r. ⌜ r ≡ b ⌝ }
+{
+    b as u64
+}
+
+// The value of the digits.
+fn value(s: &[u8]) -> u64
+    requires { ⌜ length (now s) ≤ maxDigits ⌝ }
+    requires { ⌜ allDigits (now s) ≡ true ⌝ }
+    ensures { λ r. ⌜ r ≡ valueFrom 0 (now (s .entry)) ⌝ }
+{
+    let mut v: u64 = 0;
+    let mut i: usize = 0;
+    while i < s.len() {
+        v = v * 10 + wide(s[i] - b'0');
+        i += 1;
+    }
+    v
+}
+
+// A number of a script: 1 to 10 digits, no leading zero, at most 4,294,967,295.
+pub fn number(s: &[u8]) -> Number
+    ensures { λ r. ⌜ r ≡ numberOf (now (s .entry)) ⌝ }
+{
+    if s.len() < 1 {
+        return Number::Malformed;
+    }
+    if MAX_DIGITS < s.len() {
+        return Number::Malformed;
+    }
+    if !all_digits(s) {
+        return Number::Malformed;
+    }
+    if leading_zero(s) {
+        return Number::Malformed;
+    }
+    let v = value(s);
+    if v <= MAX_NUMBER {
+        Number::Is(v as u32)
+    } else {
+        Number::Malformed
+    }
+}
+
+fn both(a: Number, b: Number) -> Pair
+    ensures { λ r. ⌜ r ≡ both a b ⌝ }
+{
+    match a {
+        Number::Is(x) => match b {
+            Number::Is(y) => Pair::Are(x, y),
+            Number::Malformed => Pair::Malformed,
+        },
+        Number::Malformed => Pair::Malformed,
+    }
+}
+
+// One field that is a number: a comma is no digit.
+pub fn one(s: &[u8]) -> Number
+    ensures { λ r. ⌜ r ≡ oneOf (parted comma (now (s .entry))) ⌝ }
+{
+    number(s)
+}
+
+// Two fields that are numbers.
+pub fn two(s: &[u8]) -> Pair
+    ensures { λ r. ⌜ r ≡ twoOf (parted comma (now (s .entry))) ⌝ }
+{
+    let e = parts::before(s, parts::COMMA);
+    if s.len() <= e {
+        return Pair::Malformed;
+    }
+    let a = number(&s[..e]);
+    let b = number(&s[e + 1..]);
+    both(a, b)
+}

@@ -1,0 +1,23 @@
+use borrow.Author.Needs.{needs}
+use Rattle.bench_script.specs.Parts.{comma}
+use Rattle.bench_text.specs.Text.{fieldText, twoText}
+use Rattle.bench_text.proofs.Appending.{then, room-first, room-next}
+use Rattle.bench_text.proofs.put_two.Statement.{statement}
+use Rattle.bench_text.proofs.put_two.Tie as tie
+
+pub put-two-spec : {M : Type 1} → statement M
+unfolding twoText
+put-two-spec =
+    tie.close
+    (tie.spec
+    (λ c κs.
+    let s = c .before .before in
+    let x = s .args in
+    room-first (x .at) (fieldText (x .a) comma) (fieldText (x .b) (x .stop)) (x .out .now) (s .pre))
+    (λ c κs.
+    let p = c .before .before .before in
+    let s = p .before .before .before in
+    let x = s .args in
+    room-next (fieldText (x .b) (x .stop)) (p .put-field .ensures) (p .put-field .kept .0) (s .pre))
+    (λ c. search needs)
+    (λ c. then (c .before .before .before .before .before .before .put-field .ensures) (c .before .before .put-field2 .ensures)))
