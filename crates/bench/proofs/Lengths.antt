@@ -21,7 +21,8 @@ use Rattle.bench_play.specs.Bench.{start, refused}
 use Rattle.bench_play.specs.Play.{answer, play, benchAfter}
 use Rattle.bench_play.specs.declared.Bench.{Bench}
 use Rattle.bench_play.specs.declared.Reply.{Reply}
-use Rattle.bench_play.proofs.Kept.{answer-kept}
+use Rattle.bench_play.proofs.Rows.{answer-kept}
+use Rattle.bench_play.proofs.Settled.{answer-line}
 use Rattle.bench_text.specs.Text.{decimal, shownText, fieldText, lineText, headerText, rowFields, rowText, endText}
 use Rattle.bench_text.specs.declared.Row.{Row}
 use Rattle.bench_text.specs.declared.Shown.{Shown}
@@ -123,20 +124,19 @@ module _ (l : Limits) (n : ℕ) where
   -- a line has no more than a malformed line's bytes for each of its own
   line-length : (b : Bench) (i : ℕ) (p : List ℕ) → i < 100000
       → length (rowText (rowOf i (eventOf n p) (answer l b (eventOf n p)))) ≤ malformedWidth * suc (length p)
-  unfolding answer
   line-length b i p small = go (leb 3 (length p)) refl
     where
       none : eventOf n p ≡ Event.Malformed → length (rowText (rowOf i (eventOf n p) (answer l b (eventOf n p)))) ≤ malformedWidth
-      none e = rw e (row-malformed i small b)
+      none e = rw (e, answer-line l b) (row-malformed i small b)
 
       go : (t : Bool) → leb 3 (length p) ≡ t → length (rowText (rowOf i (eventOf n p) (answer l b (eventOf n p)))) ≤ malformedWidth * suc (length p)
       go true h = omega (arith, leb-true 3 (length p) h, row-any i small (eventOf n p) (answer l b (eventOf n p)))
       go false h = omega (arith, none (short-line n p (leb-false 3 (length p) h)))
 
   left-length : (b : Bench) (i : ℕ) (p : List ℕ) → i < 100000 → length (rowsText i (play l b (left p))) ≤ malformedWidth * length p
-  unfolding rowsText play answer
+  unfolding rowsText play
   left-length b i [] small = omega arith
-  left-length b i (x ∷ p) small = rw length-append (omega (arith, row-malformed i small b))
+  left-length b i (x ∷ p) small = rw (answer-line l b, length-append) (omega (arith, row-malformed i small b))
 
   rows-length : (b : Bench) (i : ℕ) (ps : List (List ℕ)) → i + size ps < 100000
       → length (rowsText i (play l b (eventsOf n ps))) ≤ malformedWidth * size ps

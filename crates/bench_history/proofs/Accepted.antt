@@ -1,26 +1,20 @@
 -- An accepted line is the event of agreement that it stands for. Assumes nothing.
 use Prim.Native.Nat.{ℕ, _<_}
 use mathlib.Core.Path.{_≡_, refl, sym, ap, _∙_}
-use mathlib.Core.Bool.{Bool, true, false, cond}
 use mathlib.Core.List.{List, [], _∷_, _++_, map, append-nil, map-append}
 use mathlib.Core.Option.{some}
 use native.Mathlib.Omega.{arith}
-use lib.Dec.{eqb}
 use lib.ListN.{getElem?}
-use borrow.Author.Tests.{eqb-true, eqb-false, eq-eqb, lt-ltb, leb-false, not-false}
+use borrow.Author.Tests.{eq-eqb, lt-ltb}
 use Rattle.tally.specs.Limits.{Limits}
 use Rattle.tally.specs.Refusal.{numberOf}
 use Rattle.tally.specs.declared.Estimate.{Estimate}
 use Rattle.tally.specs.declared.Estimate.the-variants.{Blank, Split, Mileage}
-use Rattle.tally.proofs.Never.{never}
-use Rattle.consensus.specs.Methods.{isUp, propose, deliver, keyOff, keyOn}
-use Rattle.consensus.specs.Step.{quiet, recovered}
+use Rattle.consensus.specs.Methods.{propose, deliver, keyOff, keyOn}
+use Rattle.consensus.specs.Step.{quiet}
 use Rattle.consensus.specs.Units.{unitLog, downUnit}
 use Rattle.consensus.specs.declared.Answer.{Answer}
-use Rattle.consensus.specs.declared.Power.{Power}
-use Rattle.consensus.specs.declared.Power.the-variants.{Down, Up}
 use Rattle.consensus.specs.declared.Unit as U
-use Rattle.consensus.proofs.Order.{first-lowest}
 use Rattle.agreement.specs.Contents.{ContentsWorld, unlessEmpty, after, afterCut, afterProposal, delivering, apply, step}
 use Rattle.agreement.specs.Contents as C
 use Rattle.agreement.specs.Worlds.{Proposal, Decision, put, change, decision, run}
@@ -28,59 +22,12 @@ use Rattle.agreement.proofs.History.{added, after-is}
 use Rattle.bench_script.specs.Script.{eventUnit}
 use Rattle.bench_script.specs.declared.Event.{Event}
 use Rattle.bench_play.specs.Bench.{unitAt, messageAt}
-use Rattle.bench_play.specs.Play.{Played, deliveryRows, delivery, cutShort}
+use Rattle.bench_play.specs.Claims.{Sized}
+use Rattle.bench_play.specs.Play.{Played, delivery, cutShort, unitAnswer}
 use Rattle.bench_play.specs.declared.Bench.{Bench}
-use Rattle.bench_history.specs.Answers.{unitAnswer}
-use Rattle.bench_history.specs.History.{contentsEvent, proposalOf, decidedOf, withoutRound, Sized, Shows}
+use Rattle.bench_play.proofs.Accepting.{Accepts, delivered, cut-accepted, off-accepted, on-accepted}
+use Rattle.bench_history.specs.History.{contentsEvent, proposalOf, decidedOf, withoutRound, Shows}
 use Rattle.bench_history.proofs.Lists.{at-taken}
-use Rattle.bench_history.proofs.Settled.{unless-accepts}
-
--- ---- what a unit's number 0 says
-
-abbrev pub Accepts : Answer → Type 0
-Accepts a = numberOf (a .refusal) ≡ 0
-
-is-up : (p : Power) → isUp p ≡ true → p ≡ Up
-is-up Down h = never h
-is-up Up h = refl
-
-is-down : (p : Power) → isUp p ≡ false → p ≡ Down
-is-down Down h = refl
-is-down Up h = never (sym h)
-
--- a delivery that is accepted is of a message sent, to an up unit
-pub record Delivered (l : Limits) (b : Bench) (u k : ℕ) : Type 0 where
-  pub up : unitAt b u .power ≡ Up
-  pub sent : k < b .kept
-  pub same : delivery l b u k ≡ deliver l (unitAt b u) (messageAt b k)
-
-pub delivered : (l : Limits) (b : Bench) (u k : ℕ) → Accepts (delivery l b u k) → Delivered l b u k
-unfolding delivery deliveryRows
-delivered l b u k zero =
-    let a = unless-accepts (deliveryRows b u k) (unitAt b u) (deliver l (unitAt b u) (messageAt b k)) zero in
-    let none = first-lowest (deliveryRows b u k) (omega arith, (omega arith, tt)) .accepted (a .0) in
-    record { up = is-up _ (not-false _ (none .0)); sent = leb-false _ _ (none .1 .0); same = a .1 }
-
--- a cut that is accepted is a delivery that is, and the key off after it
-pub cut-accepted : (a : Answer) → Accepts (cutShort a) → Accepts a × (cutShort a ≡ keyOff (a .unit))
-unfolding cutShort
-cut-accepted a = go (eqb (numberOf (a .refusal)) 0) refl
-  where
-    go : (t : Bool) → eqb (numberOf (a .refusal)) 0 ≡ t → Accepts (cond t (keyOff (a .unit)) a) → Accepts a × (cond t (keyOff (a .unit)) a ≡ keyOff (a .unit))
-    go true e h = (eqb-true _ _ e, refl)
-    go false e h = absurd (eqb-false _ _ e h)
-
-pub off-accepted : (x : U.Unit) → Accepts (keyOff x) → keyOff x ≡ quiet (downUnit (unitLog x))
-unfolding keyOff
-off-accepted x zero = unless-accepts _ x _ zero .1
-
-pub on-accepted : (x : U.Unit) → Accepts (keyOn x) → (x .power ≡ Down) × (keyOn x ≡ quiet (recovered x))
-unfolding keyOn
-on-accepted x zero =
-    let a = unless-accepts _ x _ zero in
-    (is-down _ (first-lowest _ (omega arith, tt) .accepted (a .0) .0), a .1)
-
--- ---- the event over contents
 
 -- from w to w′: unit u is its answer's, whose message, if any, is sent and whose decision, if any, reported; ps are proposed
 pub record Went (w w′ : ContentsWorld) (ps : List Proposal) (u : ℕ) (a : Answer) : Type 0 where

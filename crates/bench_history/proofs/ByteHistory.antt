@@ -38,15 +38,16 @@ use Rattle.bench_script.specs.Script.{eventUnit, inRanges}
 use Rattle.bench_script.specs.declared.Event.{Event}
 use Rattle.bench_script.specs.declared.Header.{Header}
 use Rattle.bench_play.specs.Bench.{start, unitAt, messageAt}
-use Rattle.bench_play.specs.Play.{Played, delivery, answer, play}
+use Rattle.bench_play.specs.Play.{Played, delivery, answer, play, unitAnswer}
 use Rattle.bench_play.specs.declared.Bench.{Bench}
 use Rattle.bench_play.specs.declared.Reply.{Reply}
-use Rattle.bench_history.specs.Answers.{unitAnswer}
-use Rattle.bench_history.specs.History.{setupOf, Below, isAccepted, ofAccepted, contentsEvent, zeros, byteEvent, history, byteHistory, Sized, Shows}
+use Rattle.bench_play.specs.Claims.{Sized}
+use Rattle.bench_history.specs.History.{setupOf, Below, isAccepted, ofAccepted, contentsEvent, zeros, byteEvent, history, byteHistory, Shows}
 use Rattle.bench_history.specs.History.{contentsAfter, startBytes, bytesAfter}
-use Rattle.bench_history.proofs.Accepted.{Accepts, delivered, cut-accepted, on-accepted, sent-at as bench-sent}
-use Rattle.bench_history.proofs.Rows.{row, sized-answer}
-use Rattle.bench_history.proofs.Settled.{by-answer}
+use Rattle.bench_play.proofs.Accepting.{Accepts, delivered, cut-accepted, on-accepted}
+use Rattle.bench_history.proofs.Accepted.{sent-at as bench-sent}
+use Rattle.bench_play.proofs.Rows.{row, sized-answer}
+use Rattle.bench_play.proofs.Settled.{by-answer}
 use Rattle.bench_history.proofs.Simulation.{line, units-high, settings-ok, start-sized, start-shows}
 
 -- ---- one event

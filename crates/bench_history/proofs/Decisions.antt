@@ -21,7 +21,8 @@ use Rattle.bench_history.specs.Claims.{ProposedIn}
 use Rattle.bench_history.specs.History.{setupOf, Below, isAccepted, ofAccepted, contentsEvent, proposalOf, proposals, Decided}
 use Rattle.bench_history.specs.History.{decidedOf, decisions, withoutRound, Shows, contentsAfter}
 use Rattle.bench_history.proofs.Lists.{flat-in, flat-from}
-use Rattle.bench_history.proofs.Rows.{row, below-parts}
+use Rattle.bench_play.proofs.Rows.{row}
+use Rattle.bench_history.proofs.Lines.{below-parts}
 use Rattle.bench_history.proofs.Simulation.{line, reached-sized, units-high, simulated, after-inv}
 
 -- ---- rows and the world

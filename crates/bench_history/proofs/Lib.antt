@@ -1,10 +1,8 @@
 pub mod Lists
-pub mod Settled
-pub mod Rows
+pub mod Lines
 pub mod Accepted
 pub mod Simulation
 pub mod Decisions
-pub mod Numbers
 pub mod ByteHistory
 pub mod Rounds
 pub mod Theorem

@@ -16,7 +16,7 @@ use Rattle.bench_script.proofs.EventLines.{event-unit}
 use Rattle.bench_script.proofs.HeaderLines.{header-range}
 use Rattle.bench_text.specs.Text.{endText}
 use Rattle.bench.specs.Listing.{rowsText, headerLine, playedText, scriptText, listing}
-use Rattle.bench_history.specs.Claims.{hasSent}
+use Rattle.bench_play.specs.Claims.{hasSent}
 use Rattle.bench_history.specs.Covered.{rows, Covered}
 use Rattle.bench_history.specs.History.{Below}
 use Rattle.bench_history.proofs.Simulation.{units-some}

@@ -28,17 +28,17 @@ use Rattle.bench_script.specs.declared.Event.{Event}
 use Rattle.bench_script.specs.declared.Header.{Header}
 use Rattle.bench_play.specs.Bench as P
 use Rattle.bench_play.specs.Bench.{freshUnits, start, noUnit, unitAt, refused, accepted, withUnit, withMessage}
-use Rattle.bench_play.specs.Play.{Played, answer, play, benchAfter}
+use Rattle.bench_play.specs.Play.{Played, answer, play, benchAfter, unitAnswer}
 use Rattle.bench_play.specs.declared.Bench.{Bench}
 use Rattle.bench_play.specs.declared.Reply.{Reply}
 use Rattle.bench_play.specs.declared.Sent.{Sent}
-use Rattle.bench_history.specs.Answers.{unitAnswer}
 use Rattle.bench_history.specs.History.{setupOf, Below, ofAccepted, contentsEvent, history, proposalOf, proposals, decidedOf, decisions}
-use Rattle.bench_history.specs.History.{Sized, Shows, contentsAfter}
+use Rattle.bench_play.specs.Claims.{Sized}
+use Rattle.bench_history.specs.History.{Shows, contentsAfter}
 use Rattle.bench_history.proofs.Accepted.{Went, went}
 use Rattle.bench_history.proofs.Lists.{flat-snoc}
-use Rattle.bench_history.proofs.Rows.{row, unit-set, sized-answer, sized-after}
-use Rattle.bench_history.proofs.Settled.{by-answer}
+use Rattle.bench_play.proofs.Rows.{row, unit-set, sized-answer, sized-after}
+use Rattle.bench_play.proofs.Settled.{by-answer}
 
 -- ---- one line
 

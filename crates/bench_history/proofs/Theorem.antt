@@ -11,14 +11,14 @@ use Rattle.bench_script.specs.declared.Event.{Event}
 use Rattle.bench_script.specs.declared.Header.{Header}
 use Rattle.bench_play.specs.Bench.{start}
 use Rattle.bench_play.specs.Play.{play, benchAfter}
-use Rattle.bench_history.specs.Claims.{hasSent}
+use Rattle.bench_play.specs.Claims.{hasSent}
 use Rattle.bench_history.specs.Covered.{Covered}
 use Rattle.bench_history.specs.History.{Below}
 use Rattle.bench_history.proofs.ByteHistory.{started, byte-lawful, bytes-simulated, bytes-agreed}
 use Rattle.bench_history.proofs.Decisions.{decisions-same, decision-proposed}
-use Rattle.bench_history.proofs.Numbers.{full-only, full-met}
+use Rattle.bench_play.proofs.Numbers.{full-only, full-met}
 use Rattle.bench_history.proofs.Rounds.{numbers-met}
-use Rattle.bench_history.proofs.Rows.{refused-stays, as-many, Numbered, numbered}
+use Rattle.bench_play.proofs.Rows.{refused-stays, as-many, Numbered, numbered}
 use Rattle.bench_history.proofs.Simulation.{reached-sized, simulated}
 
 -- from the start, where nothing is kept

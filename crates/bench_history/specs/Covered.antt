@@ -15,11 +15,11 @@ use Rattle.agreement.specs.Worlds.{Agreed}
 use Rattle.bench_script.specs.declared.Event.{Event}
 use Rattle.bench_script.specs.declared.Header.{Header}
 use Rattle.bench_play.specs.Bench.{start}
+use Rattle.bench_play.specs.Claims.{Sized, Unchanged, WouldSend, NoPlace, hasSent, rising, sentNumbers}
 use Rattle.bench_play.specs.Play.{Played, answer, play, benchAfter}
 use Rattle.bench_play.specs.declared.Bench.{Bench}
-use Rattle.bench_history.specs.Answers.{WouldSend}
-use Rattle.bench_history.specs.Claims.{Unchanged, ProposedIn, NoPlace, hasSent, rising, met}
-use Rattle.bench_history.specs.History.{setupOf, zeros, byteHistory, sentNumbers, Sized, Shows, contentsAfter, startBytes, bytesAfter}
+use Rattle.bench_history.specs.Claims.{ProposedIn, met}
+use Rattle.bench_history.specs.History.{setupOf, zeros, byteHistory, Shows, contentsAfter, startBytes, bytesAfter}
 
 abbrev pub after : Limits → Header → List Event → Bench
 after l h es = benchAfter l (start h) es

@@ -1,11 +1,11 @@
 -- A played script as a history of crate agreement: the events of its accepted lines. Assumes nothing.
-use Prim.Native.Nat.{ℕ, _≤_, _<_}
+use Prim.Native.Nat.{ℕ, _<_}
 use mathlib.Core.Path.{_≡_}
 use mathlib.Core.Bool.{Bool, cond}
 use mathlib.Core.List.{List, [], _∷_, map, flatMap}
 use lib.Dec.{eqb}
-use lib.ListN.{length, take, replicate}
-use Rattle.tally.specs.Limits.{Limits, places, senders, logSize, imageSize, messageSize}
+use lib.ListN.{take, replicate}
+use Rattle.tally.specs.Limits.{Limits, logSize, imageSize, messageSize}
 use Rattle.tally.specs.Refusal.{numberOf}
 use Rattle.tally.specs.declared.Estimate.{Estimate}
 use Rattle.tally.specs.declared.Estimate.the-variants.{Blank, Split, Mileage}
@@ -19,7 +19,6 @@ use Rattle.bench_play.specs.Bench.{start, unitAt}
 use Rattle.bench_play.specs.Play.{Played, play}
 use Rattle.bench_play.specs.declared.Bench.{Bench}
 use Rattle.bench_play.specs.declared.Reply.{Reply}
-use Rattle.bench_play.specs.declared.Sent.{Sent}
 
 abbrev pub setupOf : Header → Setup
 setupOf h = record { engine = h .engine; n = h .n; entry = h .entry }
@@ -97,21 +96,7 @@ decisions rows = flatMap (λ (p : Played). decidedOf (eventUnit (p .event)) (p .
 abbrev pub withoutRound : Decision → Decided
 withoutRound d = record { unit = d .unit; mileage = d .mileage }
 
--- the message numbers shown, in order
-abbrev pub sentOf : Sent → List ℕ
-sentOf Sent.Nothing = []
-sentOf (Sent.At k) = k ∷ []
-
-unfoldable pub sentNumbers : List Played → List ℕ
-sentNumbers rows = flatMap (λ (p : Played). sentOf (p .reply .sent)) rows
-
 -- ---- the bench and the worlds
-
--- 16 units and 128 places, as the code's types say, of which at most 128 are filled
-pub record Sized (b : Bench) : Type 0 where
-  pub units : length (b .units) ≡ senders
-  pub messages : length (b .messages) ≡ places
-  pub kept : b .kept ≤ places
 
 -- the world w is the bench b after the rows: the same units below n, messages, proposals and decisions
 pub record Shows (n : ℕ) (b : Bench) (rows : List Played) (w : C.ContentsWorld) : Type 0 where

@@ -1,4 +1,3 @@
 pub mod History
-pub mod Answers
 pub mod Claims
 pub mod Covered

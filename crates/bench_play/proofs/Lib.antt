@@ -1,1 +1,5 @@
+pub mod Accepting
 pub mod Kept
+pub mod Numbers
+pub mod Rows
+pub mod Settled

@@ -14,7 +14,6 @@ use Rattle.contents.specs.declared.Kind.{Kind}
 use Rattle.contents.specs.declared.Kind.the-variants.{Empty, First, Check, Second, Skip}
 use Rattle.contents.specs.declared.Message.{Message}
 use Rattle.contents.specs.declared.Settings.{Settings}
-use Rattle.contents.specs.declared.State.{State}
 use Rattle.consensus.specs.Step.{emptyMessage, fresh, clean}
 use Rattle.consensus.specs.declared.Answer.{Answer}
 use Rattle.consensus.specs.declared.Power.the-variants.{Down}

@@ -1,16 +1,17 @@
 -- Playing events on the bench: each is a call of `consensus` on one unit. Assumes nothing.
-use Prim.Native.Nat.{ℕ, _≤_}
+use Prim.Native.Nat.{ℕ}
 use mathlib.Core.Bool.{not, cond}
 use mathlib.Core.List.{List, [], _∷_}
 use lib.Dec.{leb, eqb}
 use Rattle.tally.specs.Limits.{Limits}
 use Rattle.tally.specs.Refusal.{numberOf}
 use Rattle.tally.specs.declared.Refusal.{Refusal}
-use Rattle.consensus.specs.Methods.{isUp, unless, propose, deliver, keyOff, keyOn}
+use Rattle.consensus.specs.Methods.{isUp, refuses, unless, propose, deliver, keyOff, keyOn}
 use Rattle.consensus.specs.Rows.{Row, row}
 use Rattle.consensus.specs.declared.Answer.{Answer}
+use Rattle.bench_script.specs.Script.{eventUnit}
 use Rattle.bench_script.specs.declared.Event.{Event}
-use Rattle.bench_play.specs.Bench.{unitAt, messageAt, refused, settle}
+use Rattle.bench_play.specs.Bench.{noUnit, unitAt, messageAt, settle}
 use Rattle.bench_play.specs.declared.Bench.{Bench}
 use Rattle.bench_play.specs.declared.Reply.{Reply}
 
@@ -25,13 +26,17 @@ delivery l b u k = unless (deliveryRows b u k) (unitAt b u) (deliver l (unitAt b
 unfoldable pub cutShort : Answer → Answer
 cutShort a = cond (eqb (numberOf (a .refusal)) 0) (keyOff (a .unit)) a
 
+-- what the unit of an event answers; a malformed line is no unit's, and refused with 8
+unfoldable pub unitAnswer : Limits → Bench → Event → Answer
+unitAnswer l b Event.Malformed = refuses noUnit Refusal.Line
+unitAnswer l b (Event.Propose u v) = propose l (unitAt b u) v
+unitAnswer l b (Event.Deliver u k) = delivery l b u k
+unitAnswer l b (Event.Cut u k) = cutShort (delivery l b u k)
+unitAnswer l b (Event.KeyOff u) = keyOff (unitAt b u)
+unitAnswer l b (Event.KeyOn u) = keyOn (unitAt b u)
+
 unfoldable pub answer : Limits → Bench → Event → Reply
-answer l b Event.Malformed = refused b Refusal.Line
-answer l b (Event.Propose u v) = settle b u (propose l (unitAt b u) v)
-answer l b (Event.Deliver u k) = settle b u (delivery l b u k)
-answer l b (Event.Cut u k) = settle b u (cutShort (delivery l b u k))
-answer l b (Event.KeyOff u) = settle b u (keyOff (unitAt b u))
-answer l b (Event.KeyOn u) = settle b u (keyOn (unitAt b u))
+answer l b e = settle b (eventUnit e) (unitAnswer l b e)
 
 -- an event line, and what it was answered
 pub record Played : Type 0 where

@@ -1,10 +1,11 @@
-use Rattle.bench_play.specs.Play.{answer}
+use Rattle.bench_play.specs.Play.{unitAnswer, answer}
 use borrow.Author.Needs.{needs}
+use Rattle.bench_play.proofs.Settled.{refused-line}
 use Rattle.bench_play.proofs.Bench.answer.Statement.{statement}
 use Rattle.bench_play.proofs.Bench.answer.Tie as tie
 
 pub answer-spec : {M : Type 1} → statement M
-unfolding answer
+unfolding answer unitAnswer
 answer-spec =
     tie.close
     (tie.spec
@@ -29,7 +30,7 @@ answer-spec =
     (λ c κs. rw (c .before .e5 .given .1) at (c .before .before .before .pre .0))
     (λ c κs. search needs)
     (λ c κs. rw (c .before .before .before .e5 .given .1) at (c .before .before .before .before .before .pre .0))
-    (λ c. simp (c .before .enum-told .given .1) (c .refused .ensures))
+    (λ c. simp (c .before .enum-told .given .1, refused-line) (c .refused .ensures))
     (λ c. simp (
       c .before .before .before .before .e .given .1,
       ← (c .before .before .unit-at .ensures),

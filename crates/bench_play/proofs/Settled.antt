@@ -17,12 +17,11 @@ use Rattle.consensus.specs.declared.Answer.{Answer}
 use Rattle.consensus.specs.declared.Unit as U
 use Rattle.bench_script.specs.Script.{eventUnit}
 use Rattle.bench_script.specs.declared.Event.{Event}
-use Rattle.bench_play.specs.Bench.{refused, accepted, noPlaceLeft, withUnit, withMessage, isEmpty, send, settle}
-use Rattle.bench_play.specs.Play.{answer}
+use Rattle.bench_play.specs.Bench.{noUnit, refused, accepted, noPlaceLeft, withUnit, withMessage, isEmpty, send, settle}
+use Rattle.bench_play.specs.Play.{unitAnswer, answer}
 use Rattle.bench_play.specs.declared.Bench.{Bench}
 use Rattle.bench_play.specs.declared.Reply.{Reply}
 use Rattle.bench_play.specs.declared.Sent.{Sent}
-use Rattle.bench_history.specs.Answers.{unitAnswer}
 
 is-empty : (k : Kind) → isEmpty k ≡ true → k ≡ Empty
 is-empty Empty h = refl
@@ -61,18 +60,18 @@ by-settle P b u a s = number (eqb (numberOf (a .refusal)) 0) refl
     number true e = kind (eqb-true _ _ e) (isEmpty (a .message .kind)) refl
     number false e = s .refuses (eqb-false _ _ e)
 
--- the answer to every event is that to its unit's answer
-pub answer-settles : (l : Limits) (b : Bench) (e : Event) → answer l b e ≡ settle b (eventUnit e) (unitAnswer l b e)
-unfolding answer unitAnswer settle
-answer-settles l b Event.Malformed = refl
-answer-settles l b (Event.Propose u v) = refl
-answer-settles l b (Event.Deliver u k) = refl
-answer-settles l b (Event.Cut u k) = refl
-answer-settles l b (Event.KeyOff u) = refl
-answer-settles l b (Event.KeyOn u) = refl
+-- a malformed line is refused
+pub refused-line : {b : Bench} → settle b 0 (refuses noUnit Refusal.Line) ≡ refused b Refusal.Line
+unfolding settle
+refused-line {b} = refl
+
+pub answer-line : (l : Limits) (b : Bench) → answer l b Event.Malformed ≡ refused b Refusal.Line
+unfolding answer unitAnswer
+answer-line l b = refused-line
 
 pub by-answer : (P : Reply → Type 0) (l : Limits) (b : Bench) (e : Event) → Settling P b (eventUnit e) (unitAnswer l b e) → P (answer l b e)
-by-answer P l b e s = rw (answer-settles l b e) (by-settle P b (eventUnit e) (unitAnswer l b e) s)
+unfolding answer
+by-answer P l b e s = by-settle P b (eventUnit e) (unitAnswer l b e) s
 
 -- a method whose number is 0 is the step's answer
 pub unless-accepts : (rows : List Row) (u : U.Unit) (a : Answer) → numberOf (unless rows u a .refusal) ≡ 0

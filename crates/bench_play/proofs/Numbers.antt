@@ -19,15 +19,13 @@ use Rattle.consensus.proofs.Answers.{plain-proposed, plain-received}
 use Rattle.consensus.proofs.Order.{first-lowest}
 use Rattle.bench_script.specs.Script.{eventUnit}
 use Rattle.bench_script.specs.declared.Event.{Event}
 use Rattle.bench_play.specs.Bench.{unitAt, messageAt}
-use Rattle.bench_play.specs.Play.{deliveryRows, delivery, cutShort, answer}
+use Rattle.bench_play.specs.Play.{deliveryRows, delivery, cutShort, unitAnswer, answer}
 use Rattle.bench_play.specs.declared.Bench.{Bench}
 use Rattle.bench_play.specs.declared.Reply.{Reply}
-use Rattle.bench_history.specs.Answers.{unitAnswer, WouldSend, Sending, proposing, delivering}
-use Rattle.bench_history.specs.Claims.{NoPlace}
-use Rattle.bench_history.specs.History.{Sized}
-use Rattle.bench_history.proofs.Accepted.{cut-accepted, off-accepted, on-accepted}
-use Rattle.bench_history.proofs.Settled.{by-answer}
+use Rattle.bench_play.specs.Claims.{Sized, WouldSend, Sending, proposing, delivering, NoPlace}
+use Rattle.bench_play.proofs.Accepting.{cut-accepted, off-accepted, on-accepted}
+use Rattle.bench_play.proofs.Settled.{by-answer}
 
 -- ---- a unit's own refusals
 

@@ -1,5 +1,5 @@
 -- The rows of a played script, one by one: where each stands, how many send, and with which numbers. Assumes nothing.
-use Prim.Native.Nat.{ℕ, suc, _+_, _<_}
+use Prim.Native.Nat.{ℕ, suc, _+_, _≤_, _<_}
 use mathlib.Core.Path.{_≡_, refl, ap, _∙_}
 use mathlib.Core.Bool.{Bool, true, false, cond}
 use mathlib.Core.List.{List, [], _∷_, _++_, flatMap, List·Memᴰ, List·Memᴰ·cases-cons, List·Memᴰ·not-nil}
@@ -11,20 +11,18 @@ use lib.ListN.{length, getD, set, length-set}
 use lib.Seq.{getD-set-same, getD-set-other}
 use borrow.Author.Tests.{eqb-true, eqb-false}
 use Rattle.tally.specs.Count.{passing}
-use Rattle.tally.specs.Limits.{Limits, senders}
+use Rattle.tally.specs.Limits.{Limits, places, senders}
 use Rattle.tally.specs.Refusal.{numberOf}
 use Rattle.consensus.specs.declared.Unit as U
 use Rattle.bench_script.specs.Script.{eventUnit}
 use Rattle.bench_script.specs.declared.Event.{Event}
 use Rattle.bench_play.specs.Bench.{noUnit, unitAt, withUnit, withMessage}
-use Rattle.bench_play.specs.Play.{Played, answer, play, benchAfter}
+use Rattle.bench_play.specs.Play.{Played, unitAnswer, answer, play, benchAfter}
 use Rattle.bench_play.specs.declared.Bench.{Bench}
 use Rattle.bench_play.specs.declared.Reply.{Reply}
 use Rattle.bench_play.specs.declared.Sent.{Sent}
-use Rattle.bench_history.specs.Answers.{unitAnswer}
-use Rattle.bench_history.specs.Claims.{Unchanged, hasSent, rising}
-use Rattle.bench_history.specs.History.{Below, Sized, sentNumbers}
-use Rattle.bench_history.proofs.Settled.{by-answer}
+use Rattle.bench_play.specs.Claims.{Sized, Unchanged, hasSent, rising, sentNumbers}
+use Rattle.bench_play.proofs.Settled.{by-answer}
 
 -- a line and what it was answered
 abbrev pub row : Event → Reply → Played
@@ -55,6 +53,13 @@ sized-answer l b sized e =
   where
     size : length (set (b .units) (eventUnit e) (unitAnswer l b e .unit)) ≡ senders
     size = length-set (b .units) (eventUnit e) (unitAnswer l b e .unit) ∙ sized .units
+
+-- no more places are filled than there are
+pub answer-kept : (b : Bench) → b .kept ≤ places → (l : Limits) (e : Event) → answer l b e .bench .kept ≤ places
+unfolding withUnit withMessage
+answer-kept b h l e =
+    by-answer (λ r. r .bench .kept ≤ places) l b e
+    (record { refuses = λ some. h; quiet = λ ok empty. h; full = λ ok some full. h; sends = λ ok some room. omega arith })
 
 pub sized-after : (l : Limits) (es : List Event) (b : Bench) → Sized b → Sized (benchAfter l b es)
 unfolding benchAfter
@@ -94,11 +99,6 @@ row-line l b (e ∷ es) p h = go (List·Memᴰ·cases-cons h) (row-line l (answe
     go (inr h) later =
         let r = later h in
         record { before = e ∷ r .before; after = r .after; split = ap (λ xs. e ∷ xs) (r .split); reply = r .reply }
-
-pub below-parts : (n : ℕ) (before : List Event) (e : Event) (after : List Event) → Below n (before ++ (e ∷ after))
-    → Below n before × (eventUnit e < n)
-below-parts n [] e after h = (tt, h .0)
-below-parts n (x ∷ before) e after h = let r = below-parts n before e after (h .1) in ((h .0, r .0), r .1)
 
 -- ---- counts
 
