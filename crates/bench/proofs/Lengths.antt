@@ -29,7 +29,7 @@ use Rattle.bench_text.specs.declared.Shown.{Shown}
 use Rattle.bench_text.proofs.Digits.{digits-most, digits-short}
 use Rattle.bench.specs.Listing.{questionMark, letterOf, rowOf, rowsText, headerLine, malformedRow, malformedText}
 use Rattle.bench.specs.Turns.{eventsFrom, restText}
-use Rattle.bench.specs.Widths.{unitsWidth, entryWidth, indexWidth, keptWidth, headerWidth, malformedWidth, endWidth, maxListing}
+use Rattle.bench.specs.Widths.{headerWidth, malformedWidth, endWidth, maxListing}
 use Rattle.bench.proofs.Lines.{Some, parted-some}
 use Rattle.bench.proofs.Rest.{none-kept}
 

@@ -1,6 +1,6 @@
 -- The lines of a script, one after the other. Assumes nothing.
-use Prim.Native.Nat.{ℕ, suc, _+_, _-_, _≤_, _<_}
-use mathlib.Core.Path.{_≡_, refl, sym, ap, _∙_}
+use Prim.Native.Nat.{ℕ, _+_, _-_, _≤_, _<_}
+use mathlib.Core.Path.{_≡_, refl, ap, _∙_}
 use mathlib.Core.Bool.{Bool, true, false, cond}
 use mathlib.Core.List.{List, [], _∷_}
 use native.Mathlib.Omega.{arith}
@@ -8,7 +8,7 @@ use lib.Dec.{eqb}
 use lib.ListN.{length, take, drop, length-drop, drop-of-length-le}
 use lib.Seq.{drop-drop, drop-cons}
 use Rattle.bench_script.specs.Parts.{newline, onto, parted, before}
-use Rattle.bench_script.specs.Script.{eventUnit, eventOf, left, eventsOf}
+use Rattle.bench_script.specs.Script.{eventOf, left, eventsOf}
 use Rattle.bench_script.specs.declared.Event.{Event}
 use Rattle.bench_script.proofs.EventLines.{event-unit}
 use Rattle.bench_script.proofs.Parting.{from-there, before-le, parted-there, parted-none}

@@ -2,22 +2,22 @@
 use Prim.Native.Nat.{ℕ, _+_, _≤_, _<_}
 use mathlib.Core.Path.{_≡_, refl, sym, ap, _∙_}
 use mathlib.Core.Bool.{Bool, true, false, cond}
-use mathlib.Core.List.{List, [], _∷_, _++_}
+use mathlib.Core.List.{List, _∷_, _++_}
 use native.Mathlib.Nat.{zero-add}
 use native.Mathlib.Omega.{arith}
 use lib.Dec.{leb, ltb}
 use lib.ListN.{length, take, drop, length-append}
-use lib.Seq.{sets, sets-eq}
+use lib.Seq.{sets-eq}
 use borrow.Author.Tests.{leb-true, leb-false, le-leb, lt-leb, ltb-true, ltb-false}
 use Rattle.tally.specs.Limits.{Limits, scriptSize}
 use Rattle.tally.specs.Refusal.{numberOf}
 use Rattle.tally.specs.declared.Refusal.{Refusal}
 use Rattle.bench_script.specs.Parts.{newline, parted, before}
-use Rattle.bench_script.specs.Script.{inRanges, headerOf, eventsOf, Script, malformed, withHeader, fromLines, parse}
+use Rattle.bench_script.specs.Script.{headerOf, malformed, withHeader, fromLines, parse}
 use Rattle.bench_script.specs.declared.Header.{Header}
 use Rattle.bench_script.specs.declared.HeaderRead.{HeaderRead}
 use Rattle.bench_script.proofs.HeaderLines.{header-range}
-use Rattle.bench_script.proofs.Parting.{before-le, parted-there, parted-none}
+use Rattle.bench_script.proofs.Parting.{parted-there, parted-none}
 use Rattle.bench_play.specs.Bench.{start}
 use Rattle.bench_text.specs.Text.{Puts}
 use Rattle.bench.specs.Listing.{headerLine, playedText, malformedText, scriptText, listing, Printed, printed, over, listingCall}

@@ -46,7 +46,8 @@ fn put_played(script: &[u8], p: usize, h: Header, out: &mut [u8]) -> usize
     requires { ⌜ length (now script) ≤ scriptSize ⌝ }
     requires { ⌜ inRanges (h .n) (h .entry) ≡ true ⌝ }
     requires { ⌜ maxListing ≤ length (now out) ⌝ }
-    ensures { λ r. ⌜ Puts (now (out .entry)) 0 (headerLine h ++ restText today (start h) 0 (eventsFrom (h .n) (now (script .entry)) p)) (now (out .exit)) r ⌝ }
+    ensures { λ r. ⌜ Puts (now (out .entry)) 0 (headerLine h ++ restText today (start h) 0 (eventsFrom (h .n) (now (script .entry)) p))
+        (now (out .exit)) r ⌝ }
 {
     let engine = h.engine;
     let at = bench_text::put_header(out, 0, codes::letter_of(engine), h.n as u32, h.entry as u32);

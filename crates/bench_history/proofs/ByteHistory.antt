@@ -52,7 +52,8 @@ use Rattle.bench_history.proofs.Simulation.{line, units-high, settings-
 
 -- ---- one event
 
-module _ (l : Limits) (sane : Sane l) (n : ℕ) (c : B.ByteWorld) (w : C.ContentsWorld) (enc : Encodes l n c w) (ok : Valid l n w) (u : ℕ) (below : u < n) where
+module _ (l : Limits) (sane : Sane l) (n : ℕ) (c : B.ByteWorld) (w : C.ContentsWorld) (enc : Encodes l n c w) (ok : Valid l n w)
+    (u : ℕ) (below : u < n) where
   abbrev Follows : B.Event → C.Event → Type 0
   Follows x e = Encodes l n (B.step l n c x) (C.step l n w e)
 
@@ -65,7 +66,8 @@ module _ (l : Limits) (sane : Sane l) (n : ℕ) (c : B.ByteWorld) (w : C.Content
   no-image : w .units u .power ≡ Down → c .units u .image ≡ none
   no-image off = rw (enc .units u below, off)
 
-  byte-proposal : (v : ℕ) → w .units u .power ≡ Up → Accepts (propose l (w .units u) v) → Follows (B.proposal u v (zeros (messageSize l))) (C.proposal u v)
+  byte-proposal : (v : ℕ) → w .units u .power ≡ Up → Accepts (propose l (w .units u) v)
+      → Follows (B.proposal u v (zeros (messageSize l))) (C.proposal u v)
   unfolding B.step B.proposalOf
   byte-proposal v on number =
       rw (

@@ -137,7 +137,8 @@ module _ (l : Limits) (n : ℕ) (high : n ≤ senders) (b : Bench) (sized : Size
           go true = let r = low-event e below ok .0 in (omega (arith, r .0), omega (arith, r .1))
           go false = let r = slow .units u h in (omega (arith, r .0), omega (arith, r .1))
 
-      messages : Accepts a → b .kept < places → (k : ℕ) → k < b .kept + 1 → getD (set (b .messages) (b .kept) (a .message)) k emptyMessage .round ≤ k
+      messages : Accepts a → b .kept < places → (k : ℕ) → k < b .kept + 1
+          → getD (set (b .messages) (b .kept) (a .message)) k emptyMessage .round ≤ k
       messages ok room k h = go (eqb k (b .kept)) refl
         where
           go : (t : Bool) → eqb k (b .kept) ≡ t → getD (set (b .messages) (b .kept) (a .message)) k emptyMessage .round ≤ k
@@ -148,7 +149,8 @@ module _ (l : Limits) (n : ℕ) (high : n ≤ senders) (b : Bench) (sized : Size
               let apart = eqb-false k (b .kept) q in
               rw (getD-set-other (b .messages) (b .kept) k (a .message) emptyMessage apart) (slow .messages k (omega arith))
 
-slow-after : (l : Limits) (n : ℕ) → n ≤ senders → (es : List Event) → Below n es → (b : Bench) → Sized b → Slow n b → Slow n (benchAfter l b es)
+slow-after : (l : Limits) (n : ℕ) → n ≤ senders → (es : List Event) → Below n es → (b : Bench) → Sized b → Slow n b
+    → Slow n (benchAfter l b es)
 unfolding benchAfter
 slow-after l n high [] below b sized slow = slow
 slow-after l n high (e ∷ es) below b sized slow =

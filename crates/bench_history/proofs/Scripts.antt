@@ -1,6 +1,6 @@
 -- A script that is read has a header in range, and events of its units. Assumes nothing.
 use Prim.Native.Nat.{ℕ, _≤_, _<_}
-use mathlib.Core.Path.{_≡_, refl, sym, ap, subst, _∙_}
+use mathlib.Core.Path.{_≡_, refl, subst}
 use mathlib.Core.Bool.{true}
 use mathlib.Core.List.{List, [], _∷_, _++_}
 use borrow.Author.Tests.{le-leb}
@@ -15,7 +15,7 @@ use Rattle.bench_script.specs.declared.HeaderRead.{HeaderRead}
 use Rattle.bench_script.proofs.EventLines.{event-unit}
 use Rattle.bench_script.proofs.HeaderLines.{header-range}
 use Rattle.bench_text.specs.Text.{endText}
-use Rattle.bench.specs.Listing.{rowsText, headerLine, playedText, scriptText, listing}
+use Rattle.bench.specs.Listing.{rowsText, headerLine, playedText, listing}
 use Rattle.bench_play.specs.Claims.{hasSent}
 use Rattle.bench_history.specs.Covered.{rows, Covered}
 use Rattle.bench_history.specs.History.{Below}

@@ -50,7 +50,8 @@ pub cut-accepted : (a : Answer) → Accepts (cutShort a) → Accepts a × (cutSh
 unfolding cutShort
 cut-accepted a = go (eqb (numberOf (a .refusal)) 0) refl
   where
-    go : (t : Bool) → eqb (numberOf (a .refusal)) 0 ≡ t → Accepts (cond t (keyOff (a .unit)) a) → Accepts a × (cond t (keyOff (a .unit)) a ≡ keyOff (a .unit))
+    go : (t : Bool) → eqb (numberOf (a .refusal)) 0 ≡ t → Accepts (cond t (keyOff (a .unit)) a)
+        → Accepts a × (cond t (keyOff (a .unit)) a ≡ keyOff (a .unit))
     go true e h = (eqb-true _ _ e, refl)
     go false e h = absurd (eqb-false _ _ e h)
 

@@ -29,7 +29,8 @@ header-range line h = of-fields (parted comma line)
     unread : {A : Type 0} → HeaderRead.Malformed ≡ HeaderRead.Is h → A
     unread e = let z : _≡_ {A = ℕ} 0 1 = cc in absurd (omega arith)
 
-    of-engine : (g : EngineRead) (n entry : ℕ) → inRanges n entry ≡ true → withEngine g n entry ≡ HeaderRead.Is h → inRanges (h .n) (h .entry) ≡ true
+    of-engine : (g : EngineRead) (n entry : ℕ) → inRanges n entry ≡ true → withEngine g n entry ≡ HeaderRead.Is h
+        → inRanges (h .n) (h .entry) ≡ true
     of-engine (EngineRead.Is g) n entry r e = let q : _≡_ {A = Header} (record { engine = g; n = n; entry = entry }) h = cc in rw (← q) r
     of-engine EngineRead.Unknown n entry r e = unread e
 

@@ -39,7 +39,8 @@ module _ (c : ℕ) where
   parted-there s h = rw add-one (there s h)
 
   -- the same, as code has its slices
-  pub parted-at : (s : List ℕ) (e : ℕ) → e ≡ before c s → e < length s → parted c s ≡ take e s ∷ parted c (take (length s - (e + 1)) (drop (e + 1) s))
+  pub parted-at : (s : List ℕ) (e : ℕ) → e ≡ before c s → e < length s
+      → parted c s ≡ take e s ∷ parted c (take (length s - (e + 1)) (drop (e + 1) s))
   parted-at s e q h = let l : before c s < length s = omega arith in rw (from-there s (e + 1), q) (parted-there s l)
 
   pub parted-none : (s : List ℕ) → length s ≤ before c s → parted c s ≡ s ∷ []

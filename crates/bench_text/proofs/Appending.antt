@@ -26,7 +26,8 @@ then {xs} {ys} {zs} {at} {p} {r} {a} {b} f g =
 pub room-first : (at : ℕ) (a b xs : List ℕ) → at + length (a ++ b) ≤ length xs → at + length a ≤ length xs
 room-first at a b xs h = let h′ : at + (length a + length b) ≤ length xs = rw length-append at h in omega arith
 
-pub room-next : {xs ys : List ℕ} {at p : ℕ} {a : List ℕ} (b : List ℕ) → Puts xs at a ys p → length ys ≡ length xs → at + length (a ++ b) ≤ length xs
+pub room-next : {xs ys : List ℕ} {at p : ℕ} {a : List ℕ} (b : List ℕ) → Puts xs at a ys p → length ys ≡ length xs
+    → at + length (a ++ b) ≤ length xs
     → p + length b ≤ length ys
 room-next {xs} {ys} {at} {p} {a} b f e h =
     let h′ : at + (length a + length b) ≤ length xs = rw length-append at h in

@@ -1,7 +1,6 @@
 // The lines of a listing, appended to a lent buffer.
 use bench_script::parts;
 ghost use Prim.Native.Nat.{_+_, _≤_, _<_, _^_};
-ghost use mathlib.Core.Path.{_≡_};
 ghost use mathlib.Core.List.{[], _∷_};
 ghost use lib.ListN.{length};
 ghost use Rattle.bench_text.specs.Text.{digits, decimal, shownText, fieldText, twoText, threeText, headerText, rowText, endText, Puts};

@@ -1,8 +1,7 @@
 use Prim.Native.Nat.{_-_}
-use mathlib.Core.Path.{_≡_, sym, ap, _∙_}
+use mathlib.Core.Path.{sym, _∙_}
 use native.Mathlib.Omega.{arith}
 use borrow.Author.Needs.{needs}
-use lib.ListN.{length, take, drop}
 use lib.Seq.{length-take-le}
 use Rattle.tally.specs.Limits.{today}
 use Rattle.bench_script.proofs.HeaderLines.{header-range}

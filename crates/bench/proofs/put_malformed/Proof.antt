@@ -1,10 +1,5 @@
-use mathlib.Core.Path.{_≡_, refl}
-use mathlib.Core.List.{_++_}
-use Prim.Native.Nat.{_+_, _≤_}
-use native.Mathlib.Nat.{zero-add}
 use native.Mathlib.Omega.{arith}
 use borrow.Author.Needs.{needs}
-use lib.ListN.{length}
 use Rattle.bench_text.specs.Text.{rowText, endText}
 use Rattle.bench_text.proofs.Appending.{then, room-first, room-next}
 use Rattle.bench.specs.Listing.{malformedRow, malformedText}

@@ -1,12 +1,10 @@
 -- `bench_text::put_digits` calls itself with one digit less, which is its measure. Assumes nothing.
-use Prim.Native.Nat.{ℕ, _<_, _≤_, _+_, _-_, _/_, _%_}
-use mathlib.Core.Path.{_≡_}
-use mathlib.Core.List.{[], _∷_, _++_}
+use Prim.Native.Nat.{ℕ, _<_, _+_, _-_, _/_, _%_}
+use mathlib.Core.List.{[], _∷_}
 use native.Mathlib.Omega.{arith}
 use borrow.Author.Needs.{needs}
 use borrow.Fn.Kinds.{In}
 use borrow.Fn.PlainCycle.{Measures, is, falls, and}
-use lib.ListN.{length}
 use Rattle.bench_script.specs.Numbers.{zero as digitZero}
 use Rattle.bench_text.specs.Text.{digits}
 use Rattle.bench_text.proofs.Appending.{then, room-first, room-next}
@@ -43,7 +41,8 @@ pub +put-digits-spec : {M : Type 1} → statement M
     let s = c .before .before .before in
     let l = lower (s .args .k) (s .args .n) (c .before .if1 .left) (s .pre .1 .1 .1) in
     let room = rw (many (s .args .k) (s .args .n) (s .pre .1 .1 .0) (c .before .if1 .left)) at (s .pre .1 .0) in
-    (omega (arith, s .pre .0, l .0), (room-first (s .args .at) (digits (s .args .k - 1) (s .args .n / 10)) ((digitZero + s .args .n % 10) ∷ []) (s .args .out .now) room, l)))
+    let first = room-first (s .args .at) (digits (s .args .k - 1) (s .args .n / 10)) ((digitZero + s .args .n % 10) ∷ []) (s .args .out .now) room in
+    (omega (arith, s .pre .0, l .0), (first, l)))
     (λ c. search needs)
     (λ c. search needs)
     (λ c κs.
@@ -56,4 +55,5 @@ pub +put-digits-spec : {M : Type 1} → statement M
     (λ c.
     let d = c .before .before .before .before .before .before in
     let s = d .before .before .before .before in
-    rw (many (s .args .k) (s .args .n) (s .pre .1 .1 .0) (d .before .before .if1 .left)) (then (d .put-digits .ensures) (c .before .before .put-byte2 .ensures)))
+    rw (many (s .args .k) (s .args .n) (s .pre .1 .1 .0) (d .before .before .if1 .left))
+    (then (d .put-digits .ensures) (c .before .before .put-byte2 .ensures)))
