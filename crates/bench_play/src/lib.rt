@@ -83,8 +83,8 @@ fn is_empty(kind: Kind) -> bool
 fn cut_short(a: Answer) -> Answer
     ensures { λ r. ⌜ r ≡ cutShort a ⌝ }
 {
-    let refusal = a.refusal;
-    if tally::number(refusal) == 0 {
+    let why = a.refusal;
+    if tally::number(why) == 0 {
         let unit = a.unit;
         unit.key_off()
     } else {

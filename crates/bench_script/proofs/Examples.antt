@@ -3,7 +3,7 @@ use Prim.Native.Nat.{ℕ, _+_}
 use mathlib.Core.Path.{_≡_, refl}
 use mathlib.Core.List.{List, [], _∷_, _++_, map}
 use Rattle.tally.specs.declared.Engine.{Engine}
-use Rattle.bench_script.specs.Numbers.{zero, isNumber, numberOf}
+use Rattle.bench_script.specs.Numbers.{digitZero, isNumber, numberOf}
 use Rattle.bench_script.specs.Parts.{newline, comma}
 use Rattle.bench_script.specs.Script.{letterP, letterD, letterW, letterK, letterU, headerOf, byLetter, eventOf}
 use Rattle.bench_script.specs.Script.{Script, malformed, script, eventsOf, parse}
@@ -35,7 +35,7 @@ pub record Case : Type 0 where
 -- ---- bytes
 
 abbrev digits : List ℕ → List ℕ
-digits = map (λ d. zero + d)
+digits = map (λ d. digitZero + d)
 
 -- with commas between
 abbrev fields : List (List ℕ) → List ℕ

@@ -9,15 +9,15 @@ use borrow.Author.Tests.{leb-true, ne-eqb}
 use lib.Dec.{leb, eqb}
 use lib.ListN.{length, drop}
 use Rattle.contents.proofs.Tests.{both-true}
-use Rattle.bench_script.specs.Numbers.{zero, nine, isDigit, allDigits, isNumber, numberOf}
+use Rattle.bench_script.specs.Numbers.{digitZero, digitNine, isDigit, allDigits, isNumber, numberOf}
 use Rattle.bench_script.specs.Parts.{comma, onto, parted, before}
 use Rattle.bench_script.specs.Script.{both, oneOf, twoOf}
 use Rattle.bench_script.specs.declared.Number.{Number}
 use Rattle.bench_script.specs.declared.Pair.{Pair}
 use Rattle.bench_script.proofs.Parting.{parted-there, parted-none}
 
-pub digit-range : (b : ℕ) → isDigit b ≡ true → (zero ≤ b) × (b ≤ nine)
-digit-range b h = let t = both-true (leb zero b) (leb b nine) h in (leb-true zero b (t .0), leb-true b nine (t .1))
+pub digit-range : (b : ℕ) → isDigit b ≡ true → (digitZero ≤ b) × (b ≤ digitNine)
+digit-range b h = let t = both-true (leb digitZero b) (leb b digitNine) h in (leb-true digitZero b (t .0), leb-true b digitNine (t .1))
 
 no-comma : (s : List ℕ) → allDigits s ≡ true → length s ≤ before comma s
 no-comma [] h = omega arith

@@ -7,11 +7,11 @@ use lib.ListN.{length, getD}
 use Rattle.bench_script.specs.declared.Number.{Number}
 
 -- digits are in ASCII
-abbrev pub zero : ℕ
-zero = 48
+abbrev pub digitZero : ℕ
+digitZero = 48
 
-abbrev pub nine : ℕ
-nine = 57
+abbrev pub digitNine : ℕ
+digitNine = 57
 
 abbrev pub maxDigits : ℕ
 maxDigits = 10
@@ -20,7 +20,7 @@ abbrev pub maxNumber : ℕ
 maxNumber = 4294967295
 
 abbrev pub isDigit : ℕ → Bool
-isDigit b = leb zero b && leb b nine
+isDigit b = leb digitZero b && leb b digitNine
 
 abbrev pub allDigits : List ℕ → Bool
 allDigits [] = true
@@ -28,12 +28,12 @@ allDigits (b ∷ s) = isDigit b && allDigits s
 
 -- 0 by itself is fine
 abbrev pub leadingZero : List ℕ → Bool
-leadingZero s = leb 2 (length s) && eqb (getD s 0 0) zero
+leadingZero s = leb 2 (length s) && eqb (getD s 0 0) digitZero
 
 -- the value of the digits s after those that v is the value of
 abbrev pub valueFrom : ℕ → List ℕ → ℕ
 valueFrom v [] = v
-valueFrom v (b ∷ s) = valueFrom (v * 10 + (b - zero)) s
+valueFrom v (b ∷ s) = valueFrom (v * 10 + (b - digitZero)) s
 
 -- 1 to 10 digits, no leading zero, at most 4,294,967,295
 unfoldable pub isNumber : List ℕ → Bool

@@ -6,7 +6,7 @@ use mathlib.Core.List.{List, [], _∷_, _++_}
 use lib.Dec.{ltb}
 use lib.ListN.{length}
 use lib.Seq.{sets}
-use Rattle.bench_script.specs.Numbers.{zero as digitZero, maxDigits}
+use Rattle.bench_script.specs.Numbers.{digitZero, maxDigits}
 use Rattle.bench_script.specs.Parts.{comma, newline}
 use Rattle.bench_text.specs.declared.Row.{Row}
 use Rattle.bench_text.specs.declared.Shown.{Shown}

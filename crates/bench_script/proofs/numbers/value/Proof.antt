@@ -10,7 +10,7 @@ use borrow.Author.Needs.{needs}
 use lib.ListN.{length, drop, getD, drop-of-length-le}
 use Rattle.contents.proofs.Tests.{both-true}
 use Rattle.codec.proofs.Rows.{drop-step}
-use Rattle.bench_script.specs.Numbers.{zero, nine, maxDigits, isDigit, allDigits, valueFrom}
+use Rattle.bench_script.specs.Numbers.{digitZero, digitNine, maxDigits, isDigit, allDigits, valueFrom}
 use Rattle.bench_script.proofs.Fields.{digit-range}
 use Rattle.bench_script.proofs.numbers.value.Statement.{statement}
 use Rattle.bench_script.proofs.numbers.value.Tie as tie
@@ -25,11 +25,11 @@ module _ (s : List ℕ) (i : ℕ) (h : i < length s) (d : allDigits (drop i s) �
   digits : (isDigit (getD s i 0) ≡ true) × (allDigits (drop (i + 1) s) ≡ true)
   digits = both-true (isDigit (getD s i 0)) (allDigits (drop (i + 1) s)) (rw (drop-step s i 0) at d)
 
-  digit : (zero ≤ getD s i 0) × (getD s i 0 ≤ nine)
+  digit : (digitZero ≤ getD s i 0) × (getD s i 0 ≤ digitNine)
   digit = digit-range (getD s i 0) (digits .0)
 
 next : (s : List ℕ) (v i : ℕ) → i < length s → valueFrom 0 s ≡ valueFrom v (drop i s)
-    → valueFrom 0 s ≡ valueFrom (v * 10 + (getD s i 0 - zero)) (drop (i + 1) s)
+    → valueFrom 0 s ≡ valueFrom (v * 10 + (getD s i 0 - digitZero)) (drop (i + 1) s)
 next s v i h e = rw (e, drop-step s i 0)
 
 small : (v i : ℕ) → i < maxDigits → v < 10 ^ i → v < 1000000000
