@@ -9,14 +9,15 @@ use lib.ListN.{length, drop, length-append, length-drop}
 use borrow.Author.Tests.{leb-true, leb-false}
 use Rattle.tally.specs.Limits.{Limits, places, scriptSize}
 use Rattle.tally.specs.declared.Refusal.{Refusal}
-use Rattle.codec.specs.Codes as Codes
+use Rattle.codec.specs.Codes.{letterOf}
 use Rattle.bench_script.specs.Numbers.{maxDigits}
 use Rattle.bench_script.specs.Parts.{comma, newline, onto, parted}
-use Rattle.bench_script.specs.Script.{inRanges, eventOf, left, eventsOf}
+use Rattle.bench_script.specs.Script.{questionMark, eventLetter, inRanges, eventOf, unended, eventsOf}
 use Rattle.bench_script.specs.declared.Event.{Event}
 use Rattle.bench_script.specs.declared.Header.{Header}
 use Rattle.bench_script.proofs.EventLines.{short-line}
 use Rattle.bench_script.proofs.HeaderLines.{ranges}
+use Rattle.bench_script.proofs.Parting.{Some, parted-some}
 use Rattle.bench_play.specs.Bench.{start, refused}
 use Rattle.bench_play.specs.Play.{answer, play, benchAfter}
 use Rattle.bench_play.specs.declared.Bench.{Bench}
@@ -27,10 +28,9 @@ use Rattle.bench_text.specs.Text.{decimal, shownText, fieldText, lineText, head
 use Rattle.bench_text.specs.declared.Row.{Row}
 use Rattle.bench_text.specs.declared.Shown.{Shown}
 use Rattle.bench_text.proofs.Digits.{digits-most, digits-short}
-use Rattle.bench.specs.Listing.{questionMark, letterOf, rowOf, rowsText, headerLine, malformedRow, malformedText}
+use Rattle.bench.specs.Listing.{rowOf, rowsText, headerLine, malformedRow, malformedText}
 use Rattle.bench.specs.Turns.{eventsFrom, restText}
 use Rattle.bench.specs.Widths.{headerWidth, malformedWidth, endWidth, maxListing}
-use Rattle.bench.proofs.Lines.{Some, parted-some}
 use Rattle.bench.proofs.Rest.{none-kept}
 
 -- ---- the bytes of parts, with those between
@@ -111,7 +111,7 @@ module _ (i : ℕ) (small : i < 100000) where
         arith,
         row-length (rowOf i e r),
         number-most 4 i small,
-        letter-length (letterOf e),
+        letter-length (eventLetter e),
         shown-short (rowOf i e r .unit),
         shown-short (Shown.Number (rowOf i e r .number)),
         shown-short (rowOf i e r .sent),
@@ -133,7 +133,7 @@ module _ (l : Limits) (n : ℕ) where
       go true h = omega (arith, leb-true 3 (length p) h, row-any i small (eventOf n p) (answer l b (eventOf n p)))
       go false h = omega (arith, none (short-line n p (leb-false 3 (length p) h)))
 
-  left-length : (b : Bench) (i : ℕ) (p : List ℕ) → i < 100000 → length (rowsText i (play l b (left p))) ≤ malformedWidth * length p
+  left-length : (b : Bench) (i : ℕ) (p : List ℕ) → i < 100000 → length (rowsText i (play l b (unended p))) ≤ malformedWidth * length p
   unfolding rowsText play
   left-length b i [] small = omega arith
   left-length b i (x ∷ p) small = rw (answer-line l b, length-append) (omega (arith, row-malformed i small b))
@@ -148,7 +148,7 @@ module _ (l : Limits) (n : ℕ) where
       rw length-append
       (omega (arith, line-length b i p (omega arith), rows-length (answer l b e .bench) (i + 1) (q ∷ ps) (omega arith)))
 
-  left-count : (p : List ℕ) → length (left p) ≤ length p
+  left-count : (p : List ℕ) → length (unended p) ≤ length p
   left-count [] = omega arith
   left-count (x ∷ p) = omega arith
 
@@ -169,7 +169,7 @@ header-length : (h : Header) → inRanges (h .n) (h .entry) ≡ true → length 
 unfolding headerLine headerText
 header-length h ok =
     let r = ranges (h .n) (h .entry) ok in
-    let letter = Codes.letterOf (h .engine) in
+    let letter = letterOf (h .engine) in
     omega (
       arith,
       line-text (Shown.Letter letter ∷ Shown.Number (h .n) ∷ Shown.Number (h .entry) ∷ []),

@@ -1,33 +1,18 @@
 -- The lines of a script, one after the other. Assumes nothing.
 use Prim.Native.Nat.{ℕ, _+_, _-_, _≤_, _<_}
-use mathlib.Core.Path.{_≡_, refl, ap, _∙_}
-use mathlib.Core.Bool.{Bool, true, false, cond}
+use mathlib.Core.Path.{_≡_, ap, _∙_}
 use mathlib.Core.List.{List, [], _∷_}
 use native.Mathlib.Omega.{arith}
-use lib.Dec.{eqb}
 use lib.ListN.{length, take, drop, length-drop, drop-of-length-le}
 use lib.Seq.{drop-drop, drop-cons}
-use Rattle.bench_script.specs.Parts.{newline, onto, parted, before}
-use Rattle.bench_script.specs.Script.{eventOf, left, eventsOf}
+use Rattle.bench_script.specs.Parts.{newline, parted, before}
+use Rattle.bench_script.specs.Script.{eventOf, unended, eventsOf}
 use Rattle.bench_script.specs.declared.Event.{Event}
 use Rattle.bench_script.proofs.EventLines.{event-unit}
-use Rattle.bench_script.proofs.Parting.{from-there, before-le, parted-there, parted-none}
+use Rattle.bench_script.proofs.Parting.{from-there, before-le, parted-there, parted-none, parted-some}
 use Rattle.bench.specs.Turns.{eventsFrom, LineAt}
 
 -- a part after another is one more line
-pub record Some (ps : List (List ℕ)) : Type 0 where
-  pub first : List ℕ
-  pub others : List (List ℕ)
-  pub same : ps ≡ first ∷ others
-
-pub parted-some : (c : ℕ) (s : List ℕ) → Some (parted c s)
-parted-some c [] = record { first = []; others = []; same = refl }
-parted-some c (b ∷ s) = go (eqb b c) (parted-some c s)
-  where
-    go : (t : Bool) → Some (parted c s) → Some (cond t ([] ∷ parted c s) (onto b (parted c s)))
-    go true r = record { first = []; others = parted c s; same = refl }
-    go false r = record { first = b ∷ r .first; others = r .others; same = ap (onto b) (r .same) }
-
 pub events-line : (n c : ℕ) (p s : List ℕ) → eventsOf n (p ∷ parted c s) ≡ eventOf n p ∷ eventsOf n (parted c s)
 unfolding eventsOf
 events-line n c p s = let r = parted-some c s in rw (r .same)
@@ -69,7 +54,7 @@ module _ (n : ℕ) (s : List ℕ) (p k : ℕ) (below : p < length s) (stop : k �
       let outside′ : length (drop p s) ≤ k = rw (from-there s p) at outside in
       let most : k ≤ length (drop p s) = rw here (before-le newline (drop p s)) in
       let alone : parted newline (drop p s) ≡ drop p s ∷ [] = parted-none newline (drop p s) (rw here at outside′) in
-      let one : left (drop p s) ≡ Event.Malformed ∷ [] = ap left (drop-cons s p 0 below) in
+      let one : unended (drop p s) ≡ Event.Malformed ∷ [] = ap unended (drop-cons s p 0 below) in
       let past : length s ≤ p + k = omega (arith, outside′, left-length) in
       let none : drop (p + k) s ≡ [] = drop-of-length-le s past in
       record {

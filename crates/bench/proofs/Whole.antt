@@ -17,14 +17,13 @@ use Rattle.bench_script.specs.Script.{headerOf, malformed, withHeader, fromLine
 use Rattle.bench_script.specs.declared.Header.{Header}
 use Rattle.bench_script.specs.declared.HeaderRead.{HeaderRead}
 use Rattle.bench_script.proofs.HeaderLines.{header-range}
-use Rattle.bench_script.proofs.Parting.{parted-there, parted-none}
+use Rattle.bench_script.proofs.Parting.{parted-there, parted-none, parted-some}
 use Rattle.bench_play.specs.Bench.{start}
 use Rattle.bench_text.specs.Text.{Puts}
 use Rattle.bench.specs.Listing.{headerLine, playedText, malformedText, scriptText, listing, Printed, printed, over, listingCall}
 use Rattle.bench.specs.Turns.{eventsFrom, restText}
 use Rattle.bench.specs.Widths.{maxListing}
 use Rattle.bench.proofs.Lengths.{played-length, malformed-length}
-use Rattle.bench.proofs.Lines.{parted-some}
 
 -- ---- the script as it is read
 
@@ -93,7 +92,7 @@ pub put-over : (text xs ys : List ℕ) (r : ℕ) → length text ≤ length xs �
 put-over text xs ys r room p = (omega (arith, p .ends), p .bytes ∙ (rw zero-add at (sets-eq text xs 0 (omega arith))))
 
 -- what the call prints lies within its buffer
-call-fits : (l : Limits) (s out : List ℕ) → listingCall l s out .length ≤ length (listingCall l s out .out)
+call-fits : (l : Limits) (s out : List ℕ) → listingCall l s out .written ≤ length (listingCall l s out .out)
 unfolding listingCall
 call-fits l s out = go (ltb (length out) maxListing)
   where
@@ -103,10 +102,10 @@ call-fits l s out = go (ltb (length out) maxListing)
     whole : Printed
     whole = printed (numberOf Refusal.None) (length (listing l s)) (over (listing l s) out)
 
-    go : (t : Bool) → cond t short whole .length ≤ length (cond t short whole .out)
+    go : (t : Bool) → cond t short whole .written ≤ length (cond t short whole .out)
     go true = omega arith
     go false = rw length-append (omega arith)
 
 pub printed-fits : (l : Limits) (s xs ys : List ℕ) (k n : ℕ) → printed k n ys ≡ listingCall l s xs → n ≤ length ys
 printed-fits l s xs ys k n e =
-    rw (ap (λ (r : Printed). r .length) e, ap (λ (r : Printed). r .out) e) (call-fits l s xs)
+    rw (ap (λ (r : Printed). r .written) e, ap (λ (r : Printed). r .out) e) (call-fits l s xs)

@@ -8,8 +8,8 @@ use Rattle.tally.specs.Limits.{Limits, scriptSize}
 use Rattle.tally.specs.Refusal.{numberOf}
 use Rattle.tally.specs.declared.Estimate.{Estimate}
 use Rattle.tally.specs.declared.Refusal.{Refusal}
-use Rattle.codec.specs.Codes as Codes
-use Rattle.bench_script.specs.Script.{Script, malformed, script, parse, letterP, letterD, letterW, letterK, letterU}
+use Rattle.codec.specs.Codes.{letterOf}
+use Rattle.bench_script.specs.Script.{Script, malformed, script, parse, questionMark, eventLetter}
 use Rattle.bench_script.specs.declared.Event.{Event}
 use Rattle.bench_script.specs.declared.Header.{Header}
 use Rattle.bench_play.specs.Bench.{start}
@@ -22,17 +22,6 @@ use Rattle.bench_text.specs.declared.Shown.{Shown}
 use Rattle.bench.specs.Widths.{maxListing}
 
 -- ---- a line for each event line: index from 1, letter, unit, number, message number sent or -, decision or -
-
-abbrev pub questionMark : ℕ
-questionMark = 63
-
-abbrev pub letterOf : Event → ℕ
-letterOf Event.Malformed = questionMark
-letterOf (Event.Propose u v) = letterP
-letterOf (Event.Deliver u k) = letterD
-letterOf (Event.Cut u k) = letterW
-letterOf (Event.KeyOff u) = letterK
-letterOf (Event.KeyOn u) = letterU
 
 abbrev pub unitShown : Event → Shown
 unitShown Event.Malformed = Shown.Dash
@@ -55,7 +44,7 @@ unfoldable pub rowOf : ℕ → Event → Reply → Row
 rowOf i e r =
     record {
       index = i;
-      letter = letterOf e;
+      letter = eventLetter e;
       unit = unitShown e;
       number = numberOf (r .refusal);
       sent = sentShown (r .sent);
@@ -71,7 +60,7 @@ rowsText i (p ∷ ps) = rowText (rowOf i (p .event) (p .reply)) ++ rowsText (i +
 
 -- the header with its letter
 unfoldable pub headerLine : Header → List ℕ
-headerLine h = headerText (Codes.letterOf (h .engine)) (h .n) (h .entry)
+headerLine h = headerText (letterOf (h .engine)) (h .n) (h .entry)
 
 -- the final line has the event lines, malformed ones too, and the messages kept
 unfoldable pub playedText : Limits → Header → List Event → List ℕ
@@ -97,11 +86,11 @@ listing l s = cond (leb (length s) scriptSize) (scriptText l (parse s)) malforme
 
 pub record Printed : Type 0 where
   pub number : ℕ
-  pub length : ℕ
+  pub written : ℕ
   pub out : List ℕ
 
 abbrev pub printed : ℕ → ℕ → List ℕ → Printed
-printed k n out = record { number = k; length = n; out = out }
+printed k n out = record { number = k; written = n; out = out }
 
 abbrev pub over : List ℕ → List ℕ → List ℕ
 over text out = text ++ drop (length text) out

@@ -1,29 +1,34 @@
 -- How long a listing can be. Assumes nothing.
 use Prim.Native.Nat.{ℕ, _+_, _*_}
 use lib.ListN.{length}
-use Rattle.tally.specs.Limits.{scriptSize}
-use Rattle.bench_text.specs.Text.{endPrefix}
+use Rattle.tally.specs.Limits.{maxUnits, maxEntry, places, scriptSize}
+use Rattle.bench_script.specs.Numbers.{maxDigits}
+use Rattle.bench_text.specs.Text.{digits, endPrefix}
 
--- the digits of n, of an entry, of an index and of the messages kept
+-- the most digits of a number up to the one given
+abbrev pub widthOf : ℕ → ℕ
+widthOf most = length (digits maxDigits most)
+
+-- of n, of an entry, of an index and of the messages kept
 abbrev pub unitsWidth : ℕ
-unitsWidth = 2
+unitsWidth = widthOf maxUnits
 
 abbrev pub entryWidth : ℕ
-entryWidth = 4
+entryWidth = widthOf maxEntry
 
 abbrev pub indexWidth : ℕ
-indexWidth = 5
+indexWidth = widthOf scriptSize
 
 abbrev pub keptWidth : ℕ
-keptWidth = 3
+keptWidth = widthOf places
 
 -- the letter, n and entry, two commas and byte 10
 abbrev pub headerWidth : ℕ
 headerWidth = 1 + 1 + unitsWidth + 1 + entryWidth + 1
 
--- an index and `,?,-,8,-,-` with byte 10. An empty line prints no more, and no line prints more than this for each of its bytes
+-- an index, the five fields `?`, `-`, `8`, `-`, `-`, and a byte after each of the six. No line prints more than this for each of its bytes
 abbrev pub malformedWidth : ℕ
-malformedWidth = indexWidth + 11
+malformedWidth = indexWidth + 5 + 6
 
 -- `end,`, two numbers, a comma and byte 10
 abbrev pub endWidth : ℕ

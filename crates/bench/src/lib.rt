@@ -22,8 +22,15 @@ ghost use Rattle.bench.specs.Listing.{headerLine, malformedText, listing
 ghost use Rattle.bench.specs.Turns.{eventsFrom, restText};
 ghost use Rattle.bench.specs.Widths.{maxListing};
 
-// No listing is longer: a header, a malformed line for each byte of the script, and the final line.
-pub const MAX_LISTING: usize = 10 + 16 * limits::SCRIPT_SIZE + 14;
+// The most bytes of a header, a malformed line and the final line, as specs/Widths.antt adds them up.
+const HEADER_WIDTH: usize = 10;
+
+const MALFORMED_WIDTH: usize = 16;
+
+const END_WIDTH: usize = 14;
+
+// No listing is longer: no line prints more than a malformed line for each of its bytes.
+pub const MAX_LISTING: usize = HEADER_WIDTH + MALFORMED_WIDTH * limits::SCRIPT_SIZE + END_WIDTH;
 
 // What the call answers: 0 or a number of the scope paper's table, and the bytes that the listing takes.
 pub struct Listed {

@@ -2,27 +2,13 @@
 use bench_play::Reply;
 use bench_play::Sent;
 use bench_script::Event;
+use bench_script::events;
 use bench_text::Row;
 use bench_text::Shown;
 use tally::Estimate;
 use tally::Refusal;
 ghost use mathlib.Core.Path.{_≡_};
-ghost use Rattle.bench.specs.Listing.{letterOf, unitShown, sentShown, decisionShown, rowOf, malformedRow};
-
-const QUESTION_MARK: u8 = b'?';
-
-fn letter(e: Event) -> u8
-    ensures { λ r. ⌜ r ≡ letterOf e ⌝ }
-{
-    match e {
-        Event::Malformed => QUESTION_MARK,
-        Event::Propose(_, _) => b'P',
-        Event::Deliver(_, _) => b'D',
-        Event::Cut(_, _) => b'W',
-        Event::KeyOff(_) => b'K',
-        Event::KeyOn(_) => b'U',
-    }
-}
+ghost use Rattle.bench.specs.Listing.{unitShown, sentShown, decisionShown, rowOf, malformedRow};
 
 fn unit_shown(e: Event) -> Shown
     ensures { λ r. ⌜ r ≡ unitShown e ⌝ }
@@ -65,7 +51,7 @@ pub(crate) fn row(index: u32, e: Event, reply: Reply) -> Row
     let decision = reply.decision;
     Row {
         index,
-        letter: letter(e),
+        letter: events::letter_of(e),
         unit: unit_shown(e),
         number: tally::number(refusal),
         sent: sent_shown(sent),
@@ -79,7 +65,7 @@ pub(crate) fn malformed_row() -> Row
 {
     Row {
         index: 0,
-        letter: QUESTION_MARK,
+        letter: events::QUESTION_MARK,
         unit: Shown::Dash,
         number: tally::number(Refusal::Line),
         sent: Shown::Dash,

@@ -1,22 +1,21 @@
 -- A played script is a history over contents: the bench and the world after each line. Assumes nothing.
 use Prim.Native.Nat.{ℕ, zero, suc, _≤_, _<_}
 use mathlib.Core.Path.{_≡_, refl, sym, ap, _∙_}
-use mathlib.Core.Bool.{Bool, true, false, cond, _&&_}
+use mathlib.Core.Bool.{Bool, true, false, cond}
 use mathlib.Core.List.{List, [], _∷_, _++_, append-nil, flatMap}
 use native.Mathlib.Numerals.{add-one}
 use native.Mathlib.Omega.{arith}
-use lib.Dec.{eqb, leb}
+use lib.Dec.{eqb}
 use lib.ListN.{length, getD, take, set, length-append, length-replicate, List·getD-append}
 use lib.Seq.{append-snoc, getD-at, take-suc-set}
-use borrow.Author.Tests.{eqb-true, eqb-false, ne-eqb, lt-ltb, leb-true}
-use Rattle.tally.specs.Limits.{Limits, minUnits, maxUnits, minEntry, maxEntry, places, senders}
+use borrow.Author.Tests.{eqb-true, eqb-false, ne-eqb, lt-ltb, le-leb}
+use Rattle.tally.specs.Limits.{Limits, places, senders}
 use Rattle.tally.specs.Refusal.{numberOf}
 use Rattle.tally.specs.declared.Refusal.{Refusal}
 use Rattle.contents.specs.Logs.{settingsOk}
 use Rattle.contents.specs.declared.Kind.{Kind}
 use Rattle.contents.specs.declared.Kind.the-variants.{Empty, First, Check, Second, Skip}
 use Rattle.contents.specs.declared.Message.{Message}
-use Rattle.contents.proofs.Tests.{both-true}
 use Rattle.consensus.specs.Step.{emptyMessage, fresh}
 use Rattle.consensus.specs.declared.Answer.{Answer}
 use Rattle.consensus.proofs.Parts.{and-both}
@@ -26,6 +25,7 @@ use Rattle.agreement.proofs.History.{Inv, added, run-append, run-inv, begun-inv
 use Rattle.bench_script.specs.Script.{eventUnit, inRanges}
 use Rattle.bench_script.specs.declared.Event.{Event}
 use Rattle.bench_script.specs.declared.Header.{Header}
+use Rattle.bench_script.proofs.HeaderLines.{ranges}
 use Rattle.bench_play.specs.Bench as P
 use Rattle.bench_play.specs.Bench.{freshUnits, start, noUnit, unitAt, refused, accepted, withUnit, withMessage}
 use Rattle.bench_play.specs.Play.{Played, answer, play, benchAfter, unitAnswer}
@@ -156,21 +156,16 @@ pub reached-sized : (h : Header) (l : Limits) (es : List Event) → Sized (bench
 reached-sized h l es = sized-after l es (start h) (start-sized h)
 
 module _ (h : Header) (range : inRanges (h .n) (h .entry) ≡ true) where
-  ranges : ((leb minUnits (h .n) && leb (h .n) maxUnits) ≡ true) × ((leb minEntry (h .entry) ≡ true) × (leb (h .entry) maxEntry ≡ true))
-  ranges =
-      let n = leb minUnits (h .n) && leb (h .n) maxUnits in
-      let a = both-true (n && leb minEntry (h .entry)) _ range in
-      let b = both-true n _ (a .0) in
-      (b .0, (b .1, a .1))
-
   pub units-high : h .n ≤ senders
-  units-high = leb-true _ _ (both-true (leb minUnits (h .n)) _ (ranges .0) .1)
+  units-high = ranges (h .n) (h .entry) range .1
 
   pub units-some : 0 < h .n
-  units-some = omega (arith, leb-true minUnits (h .n) (both-true (leb minUnits (h .n)) (leb (h .n) maxUnits) (ranges .0) .0))
+  units-some = omega (arith, ranges (h .n) (h .entry) range .0)
 
   pub settings-ok : (u : ℕ) → u < h .n → settingsOk (settingsOf (setupOf h) u) ≡ true
-  settings-ok u below = and-both (and-both (and-both (ranges .0) (lt-ltb u (h .n) below)) (ranges .1 .0)) (ranges .1 .1)
+  settings-ok u below =
+      let r = ranges (h .n) (h .entry) range in
+      and-both (and-both (and-both (and-both (le-leb _ _ (r .0)) (le-leb _ _ (r .1))) (lt-ltb u (h .n) below)) (le-leb _ _ (r .2))) (le-leb _ _ (r .3))
 
   pub start-shows : Shows (h .n) (start h) [] (begun (setupOf h))
   unfolding start unitAt begun proposals decisions flatMap

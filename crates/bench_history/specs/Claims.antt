@@ -1,8 +1,9 @@
 -- What the claims on played scripts speak of. Assumes nothing.
 use Prim.Native.Nat.{ℕ}
 use mathlib.Core.Path.{_≡_}
-use mathlib.Core.List.{List, [], _∷_, List·Memᴰ}
+use mathlib.Core.List.{List, [], _∷_, map, List·Memᴰ}
 use Rattle.tally.specs.Refusal.{numberOf}
+use Rattle.tally.specs.declared.Refusal.the-variants.{None, Addressee, Mileage, Line, Power, Unsent, Full}
 use Rattle.bench_script.specs.declared.Event.{Event}
 use Rattle.bench_play.specs.Play.{Played}
 
@@ -16,4 +17,4 @@ pub record ProposedIn (v : ℕ) (rows : List Played) : Type 0 where
 
 -- the numbers that a script meets: 1 to 4 and 7 are not among them
 abbrev pub met : List ℕ
-met = 0 ∷ 5 ∷ 6 ∷ 8 ∷ 9 ∷ 10 ∷ 11 ∷ []
+met = map numberOf (None ∷ Addressee ∷ Mileage ∷ Line ∷ Power ∷ Unsent ∷ Full ∷ [])

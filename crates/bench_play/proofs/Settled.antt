@@ -1,4 +1,4 @@
--- An answer of the bench, by cases; and what a refused line leaves. Assumes nothing.
+-- An answer of the bench, by cases. Assumes nothing.
 use Prim.Native.Nat.{ℕ, _≤_, _<_}
 use mathlib.Core.Path.{_≡_, refl, sym, ap, _∙_}
 use mathlib.Core.Bool.{Bool, true, false, cond}

@@ -7,7 +7,7 @@ use native.Mathlib.Omega.{arith}
 use borrow.Author.Tests.{ltb-true, eqb-true}
 use lib.Dec.{ltb, eqb}
 use lib.ListN.{length}
-use Rattle.bench_script.specs.Numbers.{isNumber, numberOf}
+use Rattle.bench_script.specs.Numbers.{isNumber, readNumber}
 use Rattle.bench_script.specs.Parts.{comma, onto, parted}
 use Rattle.bench_script.specs.Script.{oneOf, twoOf, unitBelow, pairBelow, ofOne, ofTwo, letterP, letterD, letterW, letterK, letterU, byLetter}
 use Rattle.bench_script.specs.Script.{eventFields, eventOf, eventUnit}
@@ -44,7 +44,7 @@ module _ (n : ℕ) where
       go false (p ∷ ps) = refl
 
   pub short-line : (line : List ℕ) → length line < 3 → eventOf n line ≡ Event.Malformed
-  unfolding isNumber numberOf eventOf
+  unfolding isNumber readNumber eventOf
   short-line [] h = refl
   short-line (b ∷ []) h = go (eqb b comma)
     where

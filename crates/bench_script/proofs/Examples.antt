@@ -3,7 +3,7 @@ use Prim.Native.Nat.{ℕ, _+_}
 use mathlib.Core.Path.{_≡_, refl}
 use mathlib.Core.List.{List, [], _∷_, _++_, map}
 use Rattle.tally.specs.declared.Engine.{Engine}
-use Rattle.bench_script.specs.Numbers.{digitZero, isNumber, numberOf}
+use Rattle.bench_script.specs.Numbers.{digitZero, isNumber, readNumber}
 use Rattle.bench_script.specs.Parts.{newline, comma}
 use Rattle.bench_script.specs.Script.{letterP, letterD, letterW, letterK, letterU, headerOf, byLetter, eventOf}
 use Rattle.bench_script.specs.Script.{Script, malformed, script, eventsOf, parse}
@@ -23,7 +23,7 @@ pub data Shown : Type 0 where
   aScript : Script → Shown
 
 abbrev shown : Question → Shown
-shown (field s) = aNumber (numberOf s)
+shown (field s) = aNumber (readNumber s)
 shown (header s) = aHeader (headerOf s)
 shown (line s) = anEvent (eventOf 3 s)
 shown (whole s) = aScript (parse s)
@@ -162,5 +162,5 @@ cases =
     ∷ []
 
 pub all-hold : map (λ c. shown (c .question)) cases ≡ map (λ c. c .expected) cases
-unfolding isNumber numberOf headerOf byLetter eventOf eventsOf parse
+unfolding isNumber readNumber headerOf byLetter eventOf eventsOf parse
 all-hold = refl

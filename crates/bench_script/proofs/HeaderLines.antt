@@ -10,7 +10,7 @@ use Rattle.tally.specs.Limits.{minUnits, maxUnits, minEntry, maxEntry}
 use Rattle.contents.proofs.Tests.{both-true}
 use Rattle.codec.specs.declared.EngineRead.{EngineRead}
 use Rattle.bench_script.specs.Parts.{comma, parted}
-use Rattle.bench_script.specs.Script.{twoOf, engineField, inRanges, withEngine, withNumbers, headerFields, headerOf}
+use Rattle.bench_script.specs.Script.{twoOf, engineField, inRanges, headerWith, withNumbers, headerFields, headerOf}
 use Rattle.bench_script.specs.declared.Header.{Header}
 use Rattle.bench_script.specs.declared.HeaderRead.{HeaderRead}
 use Rattle.bench_script.specs.declared.Pair.{Pair}
@@ -29,7 +29,7 @@ header-range line h = of-fields (parted comma line)
     unread : {A : Type 0} → HeaderRead.Malformed ≡ HeaderRead.Is h → A
     unread e = let z : _≡_ {A = ℕ} 0 1 = cc in absurd (omega arith)
 
-    of-engine : (g : EngineRead) (n entry : ℕ) → inRanges n entry ≡ true → withEngine g n entry ≡ HeaderRead.Is h
+    of-engine : (g : EngineRead) (n entry : ℕ) → inRanges n entry ≡ true → headerWith g n entry ≡ HeaderRead.Is h
         → inRanges (h .n) (h .entry) ≡ true
     of-engine (EngineRead.Is g) n entry r e = let q : _≡_ {A = Header} (record { engine = g; n = n; entry = entry }) h = cc in rw (← q) r
     of-engine EngineRead.Unknown n entry r e = unread e

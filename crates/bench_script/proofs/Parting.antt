@@ -51,3 +51,17 @@ module _ (c : ℕ) where
           → cond t ([] ∷ parted c s) (onto b (parted c s)) ≡ (b ∷ s) ∷ []
       go ih true h = absurd (omega arith)
       go ih false h = ap (onto b) (ih (omega arith))
+
+-- parts are one or more
+pub record Some (ps : List (List ℕ)) : Type 0 where
+  pub first : List ℕ
+  pub others : List (List ℕ)
+  pub same : ps ≡ first ∷ others
+
+pub parted-some : (c : ℕ) (s : List ℕ) → Some (parted c s)
+parted-some c [] = record { first = []; others = []; same = refl }
+parted-some c (b ∷ s) = go (eqb b c) (parted-some c s)
+  where
+    go : (t : Bool) → Some (parted c s) → Some (cond t ([] ∷ parted c s) (onto b (parted c s)))
+    go true r = record { first = []; others = parted c s; same = refl }
+    go false r = record { first = b ∷ r .first; others = r .others; same = ap (onto b) (r .same) }

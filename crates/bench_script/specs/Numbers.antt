@@ -44,5 +44,5 @@ isNumber s =
     && not (leadingZero s)
     && leb (valueFrom 0 s) maxNumber
 
-unfoldable pub numberOf : List ℕ → Number
-numberOf s = cond (isNumber s) (Number.Is (valueFrom 0 s)) Number.Malformed
+unfoldable pub readNumber : List ℕ → Number
+readNumber s = cond (isNumber s) (Number.Is (valueFrom 0 s)) Number.Malformed

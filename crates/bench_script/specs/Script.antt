@@ -8,7 +8,7 @@ use Rattle.tally.specs.declared.Engine.{Engine}
 use Rattle.tally.specs.declared.Engine.the-variants.{B}
 use Rattle.codec.specs.Codes.{engineOf}
 use Rattle.codec.specs.declared.EngineRead.{EngineRead}
-use Rattle.bench_script.specs.Numbers.{numberOf}
+use Rattle.bench_script.specs.Numbers.{readNumber}
 use Rattle.bench_script.specs.Parts.{comma, newline, parted}
 use Rattle.bench_script.specs.declared.Event.{Event}
 use Rattle.bench_script.specs.declared.Header.{Header}
@@ -26,13 +26,13 @@ both Number.Malformed b = Pair.Malformed
 -- fields that are one number, or two; field counts are exact
 abbrev pub oneOf : List (List ℕ) → Number
 oneOf [] = Number.Malformed
-oneOf (a ∷ []) = numberOf a
+oneOf (a ∷ []) = readNumber a
 oneOf (a ∷ b ∷ fs) = Number.Malformed
 
 abbrev pub twoOf : List (List ℕ) → Pair
 twoOf [] = Pair.Malformed
 twoOf (a ∷ []) = Pair.Malformed
-twoOf (a ∷ b ∷ []) = both (numberOf a) (numberOf b)
+twoOf (a ∷ b ∷ []) = both (readNumber a) (readNumber b)
 twoOf (a ∷ b ∷ c ∷ fs) = Pair.Malformed
 
 -- ---- header: engine, n, entry
@@ -50,12 +50,12 @@ engineField n (b ∷ c ∷ s) = EngineRead.Unknown
 abbrev pub inRanges : ℕ → ℕ → Bool
 inRanges n entry = leb minUnits n && leb n maxUnits && leb minEntry entry && leb entry maxEntry
 
-abbrev pub withEngine : EngineRead → ℕ → ℕ → HeaderRead
-withEngine (EngineRead.Is g) n entry = HeaderRead.Is (record { engine = g; n = n; entry = entry })
-withEngine EngineRead.Unknown n entry = HeaderRead.Malformed
+abbrev pub headerWith : EngineRead → ℕ → ℕ → HeaderRead
+headerWith (EngineRead.Is g) n entry = HeaderRead.Is (record { engine = g; n = n; entry = entry })
+headerWith EngineRead.Unknown n entry = HeaderRead.Malformed
 
 abbrev pub withNumbers : List ℕ → Pair → HeaderRead
-withNumbers f (Pair.Are n entry) = cond (inRanges n entry) (withEngine (engineField n f) n entry) HeaderRead.Malformed
+withNumbers f (Pair.Are n entry) = cond (inRanges n entry) (headerWith (engineField n f) n entry) HeaderRead.Malformed
 withNumbers f Pair.Malformed = HeaderRead.Malformed
 
 abbrev pub headerFields : List (List ℕ) → HeaderRead
@@ -122,6 +122,18 @@ eventFields n (f ∷ fs) = byField n f fs
 unfoldable pub eventOf : ℕ → List ℕ → Event
 eventOf n line = eventFields n (parted comma line)
 
+-- the letter of an event, as a listing shows it; ? for a malformed line
+abbrev pub questionMark : ℕ
+questionMark = 63
+
+abbrev pub eventLetter : Event → ℕ
+eventLetter Event.Malformed = questionMark
+eventLetter (Event.Propose u v) = letterP
+eventLetter (Event.Deliver u k) = letterD
+eventLetter (Event.Cut u k) = letterW
+eventLetter (Event.KeyOff u) = letterK
+eventLetter (Event.KeyOn u) = letterU
+
 -- the unit of an event; 0 where there is none
 abbrev pub eventUnit : Event → ℕ
 eventUnit Event.Malformed = 0
@@ -134,13 +146,13 @@ eventUnit (Event.KeyOn u) = u
 -- ---- lines
 
 -- after the header each part but the last is a line; bytes after the last byte 10 are a malformed one
-abbrev pub left : List ℕ → List Event
-left [] = []
-left (b ∷ s) = Event.Malformed ∷ []
+abbrev pub unended : List ℕ → List Event
+unended [] = []
+unended (b ∷ s) = Event.Malformed ∷ []
 
 unfoldable pub eventsOf : ℕ → List (List ℕ) → List Event
 eventsOf n [] = []
-eventsOf n (p ∷ []) = left p
+eventsOf n (p ∷ []) = unended p
 eventsOf n (p ∷ q ∷ ps) = eventOf n p ∷ eventsOf n (q ∷ ps)
 
 -- a script as it is read

@@ -6,7 +6,7 @@ use super::numbers;
 use super::parts;
 ghost use mathlib.Core.Path.{_≡_};
 ghost use Rattle.bench_script.specs.Parts.{comma, parted};
-ghost use Rattle.bench_script.specs.Script.{oneOf, twoOf, unitBelow, pairBelow, byLetter, eventOf};
+ghost use Rattle.bench_script.specs.Script.{oneOf, twoOf, unitBelow, pairBelow, byLetter, eventLetter, eventOf};
 
 // A unit number of n or more is malformed.
 fn unit_below(n: u8, a: Number) -> Number
@@ -79,6 +79,22 @@ fn by_letter(n: u8, letter: u8, rest: &[u8]) -> Event
             Number::Malformed => Event::Malformed,
         },
         _ => Event::Malformed,
+    }
+}
+
+pub const QUESTION_MARK: u8 = b'?';
+
+// The letter of an event, as a listing shows it.
+pub fn letter_of(e: Event) -> u8
+    ensures { λ r. ⌜ r ≡ eventLetter e ⌝ }
+{
+    match e {
+        Event::Malformed => QUESTION_MARK,
+        Event::Propose(_, _) => b'P',
+        Event::Deliver(_, _) => b'D',
+        Event::Cut(_, _) => b'W',
+        Event::KeyOff(_) => b'K',
+        Event::KeyOn(_) => b'U',
     }
 }
 

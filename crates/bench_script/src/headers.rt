@@ -10,7 +10,7 @@ use tally::Engine;
 use tally::limits;
 ghost use mathlib.Core.Path.{_≡_};
 ghost use mathlib.Core.Bool.{true};
-ghost use Rattle.bench_script.specs.Script.{emptyEngine, engineField, inRanges, withEngine, withNumbers, headerOf};
+ghost use Rattle.bench_script.specs.Script.{emptyEngine, engineField, inRanges, headerWith, withNumbers, headerOf};
 
 // An empty engine field means B.
 fn empty_engine(n: u32) -> Engine
@@ -42,7 +42,7 @@ fn in_ranges(n: u32, entry: u32) -> bool
 
 fn with_engine(engine: EngineRead, n: u32, entry: u32) -> HeaderRead
     requires { ⌜ inRanges n entry ≡ true ⌝ }
-    ensures { λ r. ⌜ r ≡ withEngine engine n entry ⌝ }
+    ensures { λ r. ⌜ r ≡ headerWith engine n entry ⌝ }
 {
     match engine {
         EngineRead::Is(g) => HeaderRead::Is(Header {

@@ -30,8 +30,8 @@ pub enum HeaderRead {
     Is(Header),
 }
 
-// A line's event. Each is of one unit; a proposal gives a mileage, a delivery a message number. Cut (the scope paper's term) is its W: as a
-// delivery, but the key goes off after the log write.
+// A line's event. Each is of one unit; a proposal gives a mileage, a delivery a message number. Cut, key-off and key-on are the scope paper's
+// terms: a cut is its W, as a delivery, but the key goes off after the log write.
 pub enum Event {
     Malformed,
     Propose(u32, u32),

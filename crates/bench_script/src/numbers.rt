@@ -6,11 +6,11 @@ ghost use mathlib.Core.Path.{_≡_};
 ghost use mathlib.Core.Bool.{true};
 ghost use Prim.Native.Nat.{_≤_};
 ghost use lib.ListN.{length};
-ghost use Rattle.bench_script.specs.Numbers.{maxDigits, isDigit, allDigits, leadingZero, valueFrom, numberOf};
+ghost use Rattle.bench_script.specs.Numbers.{maxDigits, isDigit, allDigits, leadingZero, valueFrom, readNumber};
 ghost use Rattle.bench_script.specs.Parts.{comma, parted};
 ghost use Rattle.bench_script.specs.Script.{both, oneOf, twoOf};
 
-const MAX_DIGITS: usize = 10;
+pub const MAX_DIGITS: usize = 10;
 
 const MAX_NUMBER: u64 = 4294967295;
 
@@ -63,7 +63,7 @@ fn value(s: &[u8]) -> u64
 
 // A number of a script: 1 to 10 digits, no leading zero, at most 4,294,967,295.
 pub fn number(s: &[u8]) -> Number
-    ensures { λ r. ⌜ r ≡ numberOf (now (s .entry)) ⌝ }
+    ensures { λ r. ⌜ r ≡ readNumber (now (s .entry)) ⌝ }
 {
     if s.len() < 1 {
         return Number::Malformed;

@@ -47,7 +47,7 @@ digits-most (suc j) (suc k) n h =
     go true e = omega arith
     go false e = rw length-append (omega arith)
 
--- and none has more than ten
+-- nor more than asked for
 pub digits-short : (k n : ℕ) → length (digits k n) ≤ k
 digits-short zero n = omega arith
 digits-short (suc k) n = go (ltb n 10) (digits-short k (n / 10))

@@ -50,7 +50,7 @@ rowText r = lineText (rowFields r)
 
 -- the bytes e, n, d and a comma
 abbrev pub endPrefix : List ℕ
-endPrefix = 101 ∷ 110 ∷ 100 ∷ 44 ∷ []
+endPrefix = 101 ∷ 110 ∷ 100 ∷ comma ∷ []
 
 -- the final line: event lines and messages kept
 unfoldable pub endText : ℕ → ℕ → List ℕ

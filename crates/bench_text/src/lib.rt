@@ -1,4 +1,5 @@
 // The lines of a listing, appended to a lent buffer.
+use bench_script::numbers;
 use bench_script::parts;
 ghost use Prim.Native.Nat.{_+_, _≤_, _<_, _^_};
 ghost use mathlib.Core.List.{[], _∷_};
@@ -7,8 +8,6 @@ ghost use Rattle.bench_text.specs.Text.{digits, decimal, shownText, fiel
 
 // How the final line begins.
 pub const END: [u8; 4] = *b"end,";
-
-const MAX_DIGITS: usize = 10;
 
 // A field of a line.
 pub enum Shown {
@@ -53,7 +52,7 @@ fn put_number(out: &mut [u8], at: usize, n: u32) -> usize
     requires { ⌜ at + length (decimal n) ≤ length (now out) ⌝ }
     ensures { λ r. ⌜ Puts (now (out .entry)) at (decimal n) (now (out .exit)) r ⌝ }
 {
-    put_digits(out, at, n, MAX_DIGITS)
+    put_digits(out, at, n, numbers::MAX_DIGITS)
 }
 
 fn put_shown(out: &mut [u8], at: usize, s: Shown) -> usize

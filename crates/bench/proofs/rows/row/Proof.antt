@@ -18,5 +18,5 @@ row-spec =
       c .before .sent-shown .ensures,
       c .before .before .number .ensures,
       c .before .before .before .unit-shown .ensures,
-      c .before .before .before .before .letter .ensures,
+      c .before .before .before .before .letter-of .ensures,
     )))

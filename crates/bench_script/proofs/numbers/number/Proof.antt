@@ -6,30 +6,30 @@ use borrow.Author.Needs.{needs}
 use borrow.Author.Tests.{le-leb, lt-leb, not-true, not-false}
 use lib.Dec.{leb}
 use lib.ListN.{length}
-use Rattle.bench_script.specs.Numbers.{maxDigits, maxNumber, allDigits, leadingZero, valueFrom, isNumber, numberOf}
+use Rattle.bench_script.specs.Numbers.{maxDigits, maxNumber, allDigits, leadingZero, valueFrom, isNumber, readNumber}
 use Rattle.bench_script.specs.declared.Number.{Number}
 use Rattle.bench_script.proofs.numbers.number.Statement.{statement}
 use Rattle.bench_script.proofs.numbers.number.Tie as tie
 
 by-value : (s : List ℕ) → 1 ≤ length s → length s ≤ maxDigits → allDigits s ≡ true → leadingZero s ≡ false
-    → numberOf s ≡ cond (leb (valueFrom 0 s) maxNumber) (Number.Is (valueFrom 0 s)) Number.Malformed
-unfolding isNumber numberOf
+    → readNumber s ≡ cond (leb (valueFrom 0 s) maxNumber) (Number.Is (valueFrom 0 s)) Number.Malformed
+unfolding isNumber readNumber
 by-value s some few d z = simp (le-leb 1 (length s) some, le-leb (length s) maxDigits few, d, z)
 
 returns : tie.Need-returns
-unfolding isNumber numberOf
+unfolding isNumber readNumber
 returns c = simp (lt-leb _ _ (c .if1 .taken))
 
 returns-2 : tie.Need-returns-2
-unfolding isNumber numberOf
+unfolding isNumber readNumber
 returns-2 c = simp (lt-leb _ _ (c .if2 .taken), and-false)
 
 returns-3 : tie.Need-returns-3
-unfolding isNumber numberOf
+unfolding isNumber readNumber
 returns-3 c = simp (← c .before .all-digits .ensures, not-true (c .before .all-digits .result) (c .if3 .taken), and-false)
 
 returns-4 : tie.Need-returns-4
-unfolding isNumber numberOf
+unfolding isNumber readNumber
 returns-4 c = simp (← c .before .leading-zero .ensures, c .if4 .taken, and-false)
 
 value-requires : tie.Need-value-requires

@@ -5,7 +5,7 @@ use borrow.Author.Needs.{needs}
 use lib.ListN.{length, take, drop}
 use lib.Seq.{length-take-le}
 use Rattle.bench_script.specs.Parts.{comma, parted, before}
-use Rattle.bench_script.specs.Numbers.{numberOf}
+use Rattle.bench_script.specs.Numbers.{readNumber}
 use Rattle.bench_script.specs.Script.{both, twoOf}
 use Rattle.bench_script.specs.declared.Number.{Number}
 use Rattle.bench_script.proofs.Fields.{two-numbers}
@@ -13,8 +13,8 @@ use Rattle.bench_script.proofs.Parting.{parted-at, parted-none}
 use Rattle.bench_script.proofs.numbers.two.Statement.{statement}
 use Rattle.bench_script.proofs.numbers.two.Tie as tie
 
-parts : (s : List ℕ) (e : ℕ) (a b : Number) → e ≡ before comma s → e < length s → a ≡ numberOf (take e s)
-    → b ≡ numberOf (take (length s - (e + 1)) (drop (e + 1) s)) → both a b ≡ twoOf (parted comma s)
+parts : (s : List ℕ) (e : ℕ) (a b : Number) → e ≡ before comma s → e < length s → a ≡ readNumber (take e s)
+    → b ≡ readNumber (take (length s - (e + 1)) (drop (e + 1) s)) → both a b ≡ twoOf (parted comma s)
 parts s e a b q h p r = rw (parted-at comma s e q h, p, r) (sym (two-numbers (take e s) (take (length s - (e + 1)) (drop (e + 1) s))))
 
 returns : tie.Need-returns
