@@ -30,7 +30,7 @@ use Rattle.bench_text.specs.declared.Shown.{Shown}
 use Rattle.bench_text.proofs.Digits.{digits-most, digits-short}
 use Rattle.bench.specs.Listing.{rowOf, rowsText, headerLine, malformedRow, malformedText}
 use Rattle.bench.specs.Turns.{eventsFrom, restText}
-use Rattle.bench.specs.Widths.{headerWidth, malformedWidth, endWidth, maxListing}
+use Rattle.bench.specs.Widths.{indexWidth, keptWidth, headerWidth, malformedWidth, endWidth, maxListing}
 use Rattle.bench.proofs.Rest.{none-kept}
 
 -- ---- the bytes of parts, with those between
@@ -91,7 +91,7 @@ row-length : (r : Row) → length (rowText r) ≡ lineLength (rowFields r)
 unfolding rowText
 row-length r = line-text (rowFields r)
 
-module _ (i : ℕ) (small : i < 100000) where
+module _ (i : ℕ) (small : i < 10 ^ indexWidth) where
   row-malformed : (b : Bench) → length (rowText (rowOf i Event.Malformed (refused b Refusal.Line))) ≤ malformedWidth
   unfolding rowOf
   row-malformed b =
@@ -122,7 +122,7 @@ module _ (i : ℕ) (small : i < 100000) where
 
 module _ (l : Limits) (n : ℕ) where
   -- a line has no more than a malformed line's bytes for each of its own
-  line-length : (b : Bench) (i : ℕ) (p : List ℕ) → i < 100000
+  line-length : (b : Bench) (i : ℕ) (p : List ℕ) → i < 10 ^ indexWidth
       → length (rowText (rowOf i (eventOf n p) (answer l b (eventOf n p)))) ≤ malformedWidth * suc (length p)
   line-length b i p small = go (leb 3 (length p)) refl
     where
@@ -133,12 +133,12 @@ module _ (l : Limits) (n : ℕ) where
       go true h = omega (arith, leb-true 3 (length p) h, row-any i small (eventOf n p) (answer l b (eventOf n p)))
       go false h = omega (arith, none (short-line n p (leb-false 3 (length p) h)))
 
-  left-length : (b : Bench) (i : ℕ) (p : List ℕ) → i < 100000 → length (rowsText i (play l b (unended p))) ≤ malformedWidth * length p
+  left-length : (b : Bench) (i : ℕ) (p : List ℕ) → i < 10 ^ indexWidth → length (rowsText i (play l b (unended p))) ≤ malformedWidth * length p
   unfolding rowsText play
   left-length b i [] small = omega arith
   left-length b i (x ∷ p) small = rw (answer-line l b, length-append) (omega (arith, row-malformed i small b))
 
-  rows-length : (b : Bench) (i : ℕ) (ps : List (List ℕ)) → i + size ps < 100000
+  rows-length : (b : Bench) (i : ℕ) (ps : List (List ℕ)) → i + size ps < 10 ^ indexWidth
       → length (rowsText i (play l b (eventsOf n ps))) ≤ malformedWidth * size ps
   unfolding rowsText play eventsOf
   rows-length b i [] small = omega arith
@@ -178,7 +178,7 @@ header-length h ok =
       number-most 3 (h .entry) (omega (arith, r .3)),
     )
 
-end-length : (events kept : ℕ) → events < 100000 → kept < 1000 → length (endText events kept) ≤ endWidth
+end-length : (events kept : ℕ) → events < 10 ^ indexWidth → kept < 10 ^ keptWidth → length (endText events kept) ≤ endWidth
 unfolding endText
 end-length events kept e k =
     rw length-append (omega (arith, line-text (Shown.Number events ∷ Shown.Number kept ∷ []), number-most 4 events e, number-most 2 kept k))

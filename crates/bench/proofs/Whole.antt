@@ -8,7 +8,7 @@ use native.Mathlib.Omega.{arith}
 use lib.Dec.{leb, ltb}
 use lib.ListN.{length, take, drop, length-append}
 use lib.Seq.{sets-eq}
-use borrow.Author.Tests.{leb-true, leb-false, le-leb, lt-leb, ltb-true, ltb-false}
+use borrow.Author.Tests.{leb-true, leb-false, le-leb, lt-leb, ltb-true, ltb-false, le-ltb}
 use Rattle.tally.specs.Limits.{Limits, scriptSize}
 use Rattle.tally.specs.Refusal.{numberOf}
 use Rattle.tally.specs.declared.Refusal.{Refusal}
@@ -109,3 +109,9 @@ call-fits l s out = go (ltb (length out) maxListing)
 pub printed-fits : (l : Limits) (s xs ys : List ℕ) (k n : ℕ) → printed k n ys ≡ listingCall l s xs → n ≤ length ys
 printed-fits l s xs ys k n e =
     rw (ap (λ (r : Printed). r .written) e, ap (λ (r : Printed). r .out) e) (call-fits l s xs)
+
+-- with room for any listing it is accepted
+pub printed-accepted : (l : Limits) (s xs ys : List ℕ) (k n : ℕ) → maxListing ≤ length xs → printed k n ys ≡ listingCall l s xs
+    → k ≡ numberOf Refusal.None
+unfolding listingCall
+printed-accepted l s xs ys k n room e = ap (λ (r : Printed). r .number) (rw (le-ltb (length xs) maxListing room) at e)

@@ -56,15 +56,15 @@ B = 66
 abbrev R : ℕ
 R = 82
 
--- lower case, a blank, a plus sign, a quote, byte 13
+-- lower case, a space, a plus sign, a quote, byte 13
 abbrev b : ℕ
 b = 98
 
 abbrev k : ℕ
 k = 107
 
-abbrev blank : ℕ
-blank = 32
+abbrev space : ℕ
+space = 32
 
 abbrev plus : ℕ
 plus = 43
@@ -107,7 +107,7 @@ head = with B ((3 ∷ []) ∷ (7 ∷ []) ∷ [])
 
 abbrev cases : List Case
 cases =
-    -- 0; 00; 01; 120; 4294967295; 4294967296; 9999999999; eleven digits; none; a sign, a blank, a quote
+    -- 0; 00; 01; 120; 4294967295; 4294967296; 9999999999; eleven digits; none; a sign, a space, a quote
     number (0 ∷ []) 0
     ∷ noNumber (digits (0 ∷ 0 ∷ []))
     ∷ noNumber (digits (0 ∷ 1 ∷ []))
@@ -118,7 +118,7 @@ cases =
     ∷ noNumber (digits (1 ∷ 0 ∷ 0 ∷ 0 ∷ 0 ∷ 0 ∷ 0 ∷ 0 ∷ 0 ∷ 0 ∷ 0 ∷ []))
     ∷ noNumber []
     ∷ noNumber (plus ∷ digits (1 ∷ []))
-    ∷ noNumber (blank ∷ digits (1 ∷ []))
+    ∷ noNumber (space ∷ digits (1 ∷ []))
     ∷ noNumber (quote ∷ digits (1 ∷ []))
     -- ,3,7; B,3,7; R,16,9999
     ∷ heads (fields ([] ∷ digits (3 ∷ []) ∷ digits (7 ∷ []) ∷ [])) Engine.B 3 7
