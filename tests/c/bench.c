@@ -99,7 +99,8 @@ static enum run_pace pace(void)
     return script.size <= BY_BYTE_MOST && counts.scripts % BY_BYTE_EACH == 1 ? BY_BYTE : AT_ONCE;
 }
 
-static void compare(const char *kind)
+/* The listing's size. */
+static size_t compare(const char *kind)
 {
     struct bench bench;
     size_t expected_size = bench_listing_on(&bench, script.bytes, script.size, expected);
@@ -113,6 +114,7 @@ static void compare(const char *kind)
         exit(1);
     }
     count(&bench);
+    return expected_size;
 }
 
 /* The scope paper's listing, its examples for 8 to 11, and its [p] cases, as far as a bench shows them. */
@@ -208,18 +210,32 @@ static void compare_limits(void)
     }
 }
 
+/* The script's listing is right, and has this text in it. */
+static void compare_malformed(const char *kind, const char *text)
+{
+    size_t whole = compare(kind), size = strlen(text);
+
+    for (size_t i = 0; i + size <= whole; i++)
+        if (memcmp(expected + i, text, size) == 0)
+            return;
+    fail(kind, "is not malformed");
+    exit(1);
+}
+
 /* Each header and each line by itself, ended and not. */
 static void compare_lists(void)
 {
     for (size_t i = 0; i < 2 * COUNT(bad_headers); i++) {
         script.size = 0;
         add(&script, "%s%s", bad_headers[i / 2], i % 2 ? "" : "\nP,0,5\n");
-        compare("malformed header");
+        compare_malformed("malformed header", "0,?,-,8,-,-\nend,0,0\n");
     }
     for (size_t i = 0; i < 2 * COUNT(bad_lines); i++) {
+        if (i % 2 && *bad_lines[i / 2] == '\0')
+            continue; /* no line at all */
         script.size = 0;
         add(&script, "R,3,1\nP,0,5\n%s%s", bad_lines[i / 2], i % 2 ? "" : "\nD,0,0\nU,0\n");
-        compare("malformed line");
+        compare_malformed("malformed line", "\n2,?,-,8,-,-\n");
     }
     for (size_t i = 0; i < COUNT(good_headers); i++) {
         script.size = 0;
@@ -236,6 +252,7 @@ static void compare_random(void (*make)(struct script *), unsigned long times, c
     }
 }
 
+/* Whether the random scripts by themselves reached everything: what came before them is not counted. */
 static bool all_were_reached(void)
 {
     static const unsigned numbers[] = {0, 5, 6, 8, 9, 10, 11};
@@ -246,6 +263,15 @@ static bool all_were_reached(void)
     for (uint32_t n = 3; n <= UNITS; n++)
         all = all && counts.closed[0][n] > 0 && counts.closed[1][n] > 0;
     return all;
+}
+
+/* Only the scripts compared stay counted. */
+static void forget_counts(void)
+{
+    unsigned long scripts = counts.scripts;
+
+    memset(&counts, 0, sizeof counts);
+    counts.scripts = scripts;
 }
 
 static void print_counts(void)
@@ -271,6 +297,7 @@ int main(int argc, char **argv)
         compare_file(argv[i]);
     compare_limits();
     compare_lists();
+    forget_counts();
     compare_random(make_play, PLAYS, "played");
     compare_random(make_rivals, RIVALS, "rivals");
     compare_random(make_probed, PROBED, "probed");

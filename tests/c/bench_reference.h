@@ -9,7 +9,7 @@
 #include <inttypes.h>
 #include <stdio.h>
 
-#include "../c/unit_reference.h"
+#include "unit_reference.h"
 
 /* A listing's room: an empty line of one byte prints at most 16, any other line fewer for each of its bytes. */
 enum { BENCH_SCRIPT_BYTES = 32768, BENCH_LISTING_BYTES = 16 * BENCH_SCRIPT_BYTES };

@@ -32,8 +32,8 @@ use Rattle.consensus.specs.declared.Power.{Power}
 use Rattle.consensus.specs.declared.Power.the-variants.{Down, Up}
 use Rattle.consensus.specs.declared.Unit as U
 use Rattle.mileage.specs.Calls.{Called, wrongLength, unitLengths, Refusing, logBytes, messageBytes, proposeCall, deliverCall, keyOnCall, proposeCallRows}
-use Rattle.mileage.specs.Calls.{deliverCallRows, keyOnCallRows}
-use Rattle.mileage.proofs.Encoded.{answered, propose-encoded, deliver-encoded, key-on-encoded}
+use Rattle.mileage.specs.Calls.{answered, deliverCallRows, keyOnCallRows}
+use Rattle.mileage.proofs.Encoded.{propose-encoded, deliver-encoded, key-on-encoded}
 use Rattle.mileage.proofs.Rows.{propose-refusing, deliver-refusing, key-on-refusing}
 use Rattle.agreement.specs.Bytes as B
 use Rattle.agreement.specs.Bytes.{UnitBytes, ByteWorld, up, down, unlessEmpty, allZero}

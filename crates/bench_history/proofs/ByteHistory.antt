@@ -1,6 +1,6 @@
 -- A played script is a history over bytes: each accepted line is the call on its unit's own log and image. Assumes nothing.
 use Prim.Native.Nat.{ℕ, _≤_, _<_}
-use mathlib.Core.Path.{_≡_, refl, ap, _∙_}
+use mathlib.Core.Path.{_≡_, refl, ap}
 use mathlib.Core.Bool.{Bool, true, false, cond}
 use mathlib.Core.List.{List, [], _∷_, _++_, flatMap}
 use mathlib.Core.Option.{none, some}
@@ -14,16 +14,14 @@ use Rattle.contents.specs.Messages.{messageOk}
 use Rattle.contents.specs.declared.Message.{Message}
 use Rattle.codec.specs.Formats.{Reading}
 use Rattle.codec.specs.Images.{imageBytes}
+use Rattle.codec.specs.Messages.{emptyBytes}
 use Rattle.codec.proofs.Letters.{engine-letter}
 use Rattle.consensus.specs.Methods.{propose, deliver}
 use Rattle.consensus.specs.Rows.{firstOf}
 use Rattle.consensus.specs.Units.{unitLog, unitImage}
-use Rattle.consensus.specs.declared.Power.{Power}
 use Rattle.consensus.specs.declared.Power.the-variants.{Down, Up}
-use Rattle.consensus.specs.declared.Unit as U
-use Rattle.consensus.proofs.Refusals.{propose-down}
-use Rattle.mileage.specs.Calls.{unitLengths, badSettings, logBytes, startCallRows, startCall, deliverCall}
-use Rattle.mileage.proofs.Encoded.{answered, read-message, propose-encoded, deliver-encoded}
+use Rattle.mileage.specs.Calls.{answered, unitLengths, badSettings, logBytes, startCallRows, startCall, deliverCall}
+use Rattle.mileage.proofs.Encoded.{read-message, propose-encoded, deliver-encoded}
 use Rattle.agreement.specs.Bytes as B
 use Rattle.agreement.specs.Contents as C
 use Rattle.agreement.specs.Demand3.{view}
@@ -40,25 +38,23 @@ use Rattle.bench_script.specs.declared.Header.{Header}
 use Rattle.bench_play.specs.Bench.{start, unitAt, messageAt}
 use Rattle.bench_play.specs.Play.{Played, delivery, answer, play, unitAnswer}
 use Rattle.bench_play.specs.declared.Bench.{Bench}
-use Rattle.bench_play.specs.declared.Reply.{Reply}
 use Rattle.bench_play.specs.Claims.{Sized}
 use Rattle.bench_history.specs.History.{setupOf, Below, isAccepted, ofAccepted, contentsEvent, zeros, byteEvent, history, byteHistory, Shows}
-use Rattle.bench_history.specs.History.{contentsAfter, startBytes, bytesAfter}
-use Rattle.bench_play.proofs.Accepting.{Accepts, delivered, cut-accepted, on-accepted}
+use Rattle.bench_history.specs.History.{contentsAfter, startLog, startImage, startBytes, bytesAfter}
+use Rattle.bench_play.proofs.Accepting.{Accepts, proposal-up, delivered, cut-accepted, on-accepted, accepts}
 use Rattle.bench_history.proofs.Accepted.{sent-at as bench-sent}
 use Rattle.bench_play.proofs.Rows.{row, sized-answer}
-use Rattle.bench_play.proofs.Settled.{by-answer}
 use Rattle.bench_history.proofs.Simulation.{line, units-high, settings-ok, start-sized, start-shows}
 
 -- ---- one event
+
+pub out-size : (l : Limits) → length (emptyBytes l) ≡ messageSize l
+out-size l = length-replicate (messageSize l) 0
 
 module _ (l : Limits) (sane : Sane l) (n : ℕ) (c : B.ByteWorld) (w : C.ContentsWorld) (enc : Encodes l n c w) (ok : Valid l n w)
     (u : ℕ) (below : u < n) where
   abbrev Follows : B.Event → C.Event → Type 0
   Follows x e = Encodes l n (B.step l n c x) (C.step l n w e)
-
-  out-size : length (zeros (messageSize l)) ≡ messageSize l
-  out-size = length-replicate (messageSize l) 0
 
   up-image : w .units u .power ≡ Up → c .units u .image ≡ some (imageBytes l (unitImage (w .units u)))
   up-image on = rw (enc .units u below, on)
@@ -67,43 +63,44 @@ module _ (l : Limits) (sane : Sane l) (n : ℕ) (c : B.ByteWorld) (w : C.Content
   no-image off = rw (enc .units u below, off)
 
   byte-proposal : (v : ℕ) → w .units u .power ≡ Up → Accepts (propose l (w .units u) v)
-      → Follows (B.proposal u v (zeros (messageSize l))) (C.proposal u v)
+      → Follows (B.proposal u v (emptyBytes l)) (C.proposal u v)
   unfolding B.step B.proposalOf
   byte-proposal v on number =
       rw (
         lt-ltb u n below,
         up-image on,
         has-log l sane n w ok c enc u below,
-        propose-encoded l sane (w .units u) (ok .units u below) on v (zeros (messageSize l)) out-size,
+        propose-encoded l sane (w .units u) (ok .units u below) on v (emptyBytes l) (out-size l),
       )
-      (step-proposal l sane n c w enc ok u below on (zeros (messageSize l)) v number)
+      (step-proposal l sane n c w enc ok u below on (emptyBytes l) v number)
 
   -- a delivery or a cut of it
-  module _ (k : ℕ) (m : Message) (there : getElem? (w .sent) k ≡ some m) (on : w .units u .power ≡ Up) (number : Accepts (deliver l (w .units u) m)) where
+  module _ (k : ℕ) (m : Message) (there : getElem? (w .sent) k ≡ some m) where
     kept-ok : messageOk l m ≡ true
     kept-ok = ok .sent m (sent-in (w .sent) k m there)
 
-    kept-bytes : getElem? (c .sent) k ≡ some (sentBytes l m)
-    kept-bytes = ap (λ ms. getElem? ms k) (enc .sent) ∙ sent-at l (w .sent) k ∙ rw there
+    pub kept-bytes : getElem? (c .sent) k ≡ some (sentBytes l m)
+    kept-bytes = rw (enc .sent, sent-at l (w .sent) k, there)
 
     kept-round : B.roundOf l (sentBytes l m) ≡ m .round
     kept-round = ap (λ (r : Reading Message). r .contents .round) (read-message l sane m kept-ok .0)
 
-    called : deliverCall l (logBytes l (unitLog (w .units u))) (imageBytes l (unitImage (w .units u))) (sentBytes l m) (zeros (messageSize l))
-        ≡ answered l (deliver l (w .units u) m)
-    called = deliver-encoded l sane (w .units u) (ok .units u below) on m (zeros (messageSize l)) kept-ok out-size
+    module _ (on : w .units u .power ≡ Up) where
+      pub called : deliverCall l (logBytes l (unitLog (w .units u))) (imageBytes l (unitImage (w .units u))) (sentBytes l m) (emptyBytes l)
+          ≡ answered l (deliver l (w .units u) m)
+      called = deliver-encoded l sane (w .units u) (ok .units u below) on m (emptyBytes l) kept-ok (out-size l)
 
-    byte-delivery : Follows (B.delivery u k (zeros (messageSize l))) (C.delivery u k)
-    unfolding B.step B.delivering
-    byte-delivery =
-        rw (lt-ltb u n below, up-image on, kept-bytes, has-log l sane n w ok c enc u below, called, kept-round)
-        (step-delivery l sane n c w enc ok u below on (zeros (messageSize l)) m kept-ok k there number)
+      byte-delivery : Accepts (deliver l (w .units u) m) → Follows (B.delivery u k (emptyBytes l)) (C.delivery u k)
+      unfolding B.step B.delivering
+      byte-delivery number =
+          rw (lt-ltb u n below, up-image on, kept-bytes, has-log l sane n w ok c enc u below, called, kept-round)
+          (step-delivery l sane n c w enc ok u below on (emptyBytes l) m kept-ok k there number)
 
-    byte-cut : Follows (B.cut u k (zeros (messageSize l))) (C.cut u k)
-    unfolding B.step B.delivering
-    byte-cut =
-        rw (lt-ltb u n below, up-image on, kept-bytes, has-log l sane n w ok c enc u below, called)
-        (step-cut l sane n c w enc ok u below on (zeros (messageSize l)) m kept-ok k there number)
+      byte-cut : Accepts (deliver l (w .units u) m) → Follows (B.cut u k (emptyBytes l)) (C.cut u k)
+      unfolding B.step B.delivering
+      byte-cut number =
+          rw (lt-ltb u n below, up-image on, kept-bytes, has-log l sane n w ok c enc u below, called)
+          (step-cut l sane n c w enc ok u below on (emptyBytes l) m kept-ok k there number)
 
   byte-off : Follows (B.off u) (C.off u)
   unfolding B.step
@@ -116,25 +113,6 @@ module _ (l : Limits) (sane : Sane l) (n : ℕ) (c : B.ByteWorld) (w : C.Content
       (step-on l sane n c w enc ok u below off (zeros (imageSize l)) (length-replicate (imageSize l) 0))
 
 -- ---- one line
-
--- an accepted proposal is to an up unit
-proposal-up : (l : Limits) (x : U.Unit) (v : ℕ) → Accepts (propose l x v) → x .power ≡ Up
-proposal-up l x v number = go (x .power) refl
-  where
-    go : (p : Power) → x .power ≡ p → p ≡ Up
-    go Up e = refl
-    go Down e = absurd (omega (arith, propose-down l x v e .number, number))
-
--- what the bench accepts, its unit does
-accepts : (l : Limits) (b : Bench) (e : Event) → numberOf (answer l b e .refusal) ≡ 0 → Accepts (unitAnswer l b e)
-accepts l b e =
-    by-answer (λ (r : Reply). numberOf (r .refusal) ≡ 0 → Accepts (unitAnswer l b e)) l b e
-    (record {
-      refuses = λ some q. q;
-      quiet = λ ok empty q. ok;
-      full = λ ok some full q. ok;
-      sends = λ ok some room q. ok;
-    })
 
 module _ (l : Limits) (sane : Sane l) (n : ℕ) (b : Bench) (sized : Sized b) (rows : List Played) (w : C.ContentsWorld) (shows : Shows n b rows w)
     (c : B.ByteWorld) (enc : Encodes l n c w) (ok : Valid l n w) where
@@ -207,7 +185,7 @@ lawful l n (p ∷ rows) c = go (isAccepted (p .reply)) (p .event) (lawful l n ro
     go false e later = later c
 
 module _ (l : Limits) (sane : Sane l) (h : Header) (range : inRanges (h .n) (h .entry) ≡ true) where
-  pub started : (u : ℕ) → u < h .n → B.startOf l (setupOf h) (λ u. zeros (logSize l)) (λ u. zeros (imageSize l)) u .number ≡ 0
+  pub started : (u : ℕ) → u < h .n → B.startOf l (setupOf h) (startLog l) (startImage l) u .number ≡ 0
   unfolding startCall startCallRows firstOf unitLengths badSettings
   started u below =
       rw (

@@ -4,6 +4,7 @@ pub mod Accepted
 pub mod Simulation
 pub mod Decisions
 pub mod ByteHistory
+pub mod OwnCalls
 pub mod Rounds
 pub mod Theorem
 pub mod Scripts

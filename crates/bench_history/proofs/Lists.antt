@@ -4,7 +4,7 @@ use mathlib.Core.Path.{_≡_, refl, sym, ap, subst, _∙_}
 use mathlib.Core.List.{List, [], _∷_, _++_, flatMap, append-assoc, append-nil, List·Memᴰ, List·Memᴰ·head, List·Memᴰ·tail, List·Memᴰ·cases-cons}
 use mathlib.Core.List.{List·Memᴰ·not-nil, List·Memᴰ·append-cases, Memᴰ·append-left, Memᴰ·append-right}
 use mathlib.Core.Logic.{_⊎_, inl, inr}
-use mathlib.Core.Option.{some}
+use mathlib.Core.Option.{none, some}
 use native.Mathlib.Omega.{arith}
 use lib.ListN.{length, getD, take, getElem?}
 
@@ -14,6 +14,13 @@ at-taken xs zero k d h f = absurd (omega arith)
 at-taken [] (suc i) k d h f = absurd (omega arith)
 at-taken (x ∷ xs) (suc i) zero d h f = refl
 at-taken (x ∷ xs) (suc i) (suc k) d h f = at-taken xs i k d (omega arith) (omega arith)
+
+-- and past them nothing
+pub past-taken : {A : Type 0} (xs : List A) (i k : ℕ) → i ≤ k → getElem? (take i xs) k ≡ none
+past-taken xs zero k h = refl
+past-taken [] (suc i) k h = refl
+past-taken (x ∷ xs) (suc i) zero h = absurd (omega arith)
+past-taken (x ∷ xs) (suc i) (suc k) h = past-taken xs i k (omega arith)
 
 -- what stands at a place is there
 pub at-in : {A : Type 0} (xs : List A) (i : ℕ) (d : A) → i < length xs → List·Memᴰ (getD xs i d) xs

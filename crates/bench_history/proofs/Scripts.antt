@@ -1,11 +1,10 @@
 -- A script that is read has a header in range, and events of its units. Assumes nothing.
-use Prim.Native.Nat.{ℕ, _≤_, _<_}
+use Prim.Native.Nat.{ℕ, _<_}
 use mathlib.Core.Path.{_≡_, refl, subst}
 use mathlib.Core.Bool.{true}
-use mathlib.Core.List.{List, [], _∷_, _++_}
+use mathlib.Core.List.{List, [], _∷_}
 use borrow.Author.Tests.{le-leb}
 use lib.ListN.{length}
-use Rattle.tally.specs.Count.{passing}
 use Rattle.tally.specs.Limits.{Limits, Sane, scriptSize}
 use Rattle.bench_script.specs.Parts.{newline, parted}
 use Rattle.bench_script.specs.Script.{inRanges, headerOf, eventsOf, Script, malformed, script, withHeader, fromLines, parse}
@@ -14,11 +13,10 @@ use Rattle.bench_script.specs.declared.Header.{Header}
 use Rattle.bench_script.specs.declared.HeaderRead.{HeaderRead}
 use Rattle.bench_script.proofs.EventLines.{event-unit}
 use Rattle.bench_script.proofs.HeaderLines.{header-range}
-use Rattle.bench_text.specs.Text.{endText}
-use Rattle.bench.specs.Listing.{rowsText, headerLine, playedText, listing}
-use Rattle.bench_play.specs.Claims.{hasSent}
-use Rattle.bench_history.specs.Covered.{rows, Covered}
+use Rattle.bench.specs.Listing.{playedText, listing}
+use Rattle.bench_history.specs.Covered.{Covered}
 use Rattle.bench_history.specs.History.{Below}
+use Rattle.bench_history.specs.Listed.{Listed}
 use Rattle.bench_history.proofs.Simulation.{units-some}
 use Rattle.bench_history.proofs.Theorem.{covered}
 
@@ -59,10 +57,12 @@ covered-script l sane s h es e =
     let i : ScriptIn (script h es) = subst ScriptIn e (script-in s) in
     covered l sane h (i .0) es (i .1)
 
--- its listing has the header, a line for each row, and on the final line how many rows there are and how many of them sent a message
-pub listed : (l : Limits) → Sane l → (s : List ℕ) (h : Header) (es : List Event) → length s ≤ scriptSize → parse s ≡ script h es
-    → listing l s ≡ headerLine h ++ (rowsText 1 (rows l h es) ++ endText (length (rows l h es)) (passing hasSent (rows l h es)))
+pub listed : (l : Limits) → Sane l → (s : List ℕ) → Listed l s
 unfolding listing playedText
-listed l sane s h es short e =
-    let c = covered-script l sane s h es e in
-    rw (le-leb (length s) scriptSize short, e, c .as-many, ← c .kept)
+listed l sane s =
+    record {
+      covered = covered-script l sane s;
+      lines = λ h es short e.
+          let c = covered-script l sane s h es e in
+          rw (le-leb (length s) scriptSize short, e, c .as-many, ← c .kept);
+    }

@@ -17,6 +17,7 @@ use Rattle.bench_history.specs.History.{Below}
 use Rattle.bench_history.proofs.ByteHistory.{started, byte-lawful, bytes-simulated, bytes-agreed}
 use Rattle.bench_history.proofs.Decisions.{decisions-same, decision-proposed}
 use Rattle.bench_play.proofs.Numbers.{full-only, full-met}
+use Rattle.bench_history.proofs.OwnCalls.{calls}
 use Rattle.bench_history.proofs.Rounds.{numbers-met}
 use Rattle.bench_play.proofs.Rows.{refused-stays, as-many, Numbered, numbered}
 use Rattle.bench_history.proofs.Simulation.{reached-sized, simulated}
@@ -36,6 +37,7 @@ covered l sane h range es below =
       started = started l sane h range;
       lawful = byte-lawful l sane h range es below;
       bytes = bytes-simulated l sane h range es below;
+      calls = calls l sane h range es below;
       agreed = bytes-agreed l sane h range es below;
       decisions-same = decisions-same l h range es below;
       decision-proposed = decision-proposed l h range es below;

@@ -4,7 +4,7 @@ use mathlib.Core.Path.{_≡_}
 use mathlib.Core.List.{List, _∷_, _++_, List·Memᴰ}
 use lib.ListN.{length}
 use Rattle.tally.specs.Count.{passing}
-use Rattle.tally.specs.Limits.{Limits, places, logSize, imageSize}
+use Rattle.tally.specs.Limits.{Limits, places}
 use Rattle.tally.specs.Refusal.{numberOf}
 use Rattle.tally.specs.declared.Estimate.the-variants.{Mileage}
 use Rattle.tally.specs.declared.Refusal.{Refusal}
@@ -18,8 +18,9 @@ use Rattle.bench_play.specs.Bench.{start}
 use Rattle.bench_play.specs.Claims.{Sized, Unchanged, WouldSend, NoPlace, hasSent, rising, sentNumbers}
 use Rattle.bench_play.specs.Play.{Played, answer, play, benchAfter}
 use Rattle.bench_play.specs.declared.Bench.{Bench}
+use Rattle.bench_history.specs.Calls.{OwnCall}
 use Rattle.bench_history.specs.Claims.{ProposedIn, met}
-use Rattle.bench_history.specs.History.{setupOf, zeros, byteHistory, Shows, contentsAfter, startBytes, bytesAfter}
+use Rattle.bench_history.specs.History.{setupOf, byteHistory, Shows, contentsAfter, startLog, startImage, startBytes, bytesAfter}
 
 abbrev pub after : Limits → Header → List Event → Bench
 after l h es = benchAfter l (start h) es
@@ -36,10 +37,13 @@ pub record Covered (l : Limits) (h : Header) (es : List Event) : Type 0 where
   pub sized : Sized (after l h es)
   -- the accepted lines are a history over contents, whose units, messages, proposals and decisions are the bench's
   pub contents : Shows (h .n) (after l h es) (rows l h es) (contentsAfter l h es)
-  -- and a lawful one over bytes, from units that are started, whose bytes are those of these contents
-  pub started : (u : ℕ) → u < h .n → B.startOf l (setupOf h) (λ u. zeros (logSize l)) (λ u. zeros (imageSize l)) u .number ≡ 0
-  pub lawful : B.Lawful l (h .n) (startBytes l h) (byteHistory l (start h) es)
+  -- and one over bytes, from units that are started, whose bytes are those of these contents
+  pub started : (u : ℕ) → u < h .n → B.startOf l (setupOf h) (startLog l) (startImage l) u .number ≡ 0
   pub bytes : Encodes l (h .n) (bytesAfter l h es) (contentsAfter l h es)
+  -- each accepted line is an accepted call on that unit's own log and image, and each message delivered was sent
+  pub calls : EachLine es (λ before e. OwnCall l (bytesAfter l h before) (after l h before) e)
+  -- only demand 3's hypothesis: no event of this history is a `call`, with buffers of the host's choice
+  pub lawful : B.Lawful l (h .n) (startBytes l h) (byteHistory l (start h) es)
   -- so that demand 3 holds of it
   pub agreed : Agreed (setupOf h) (view l) (B.step l (h .n)) (startBytes l h) (byteHistory l (start h) es)
   -- any two decisions shown are the same

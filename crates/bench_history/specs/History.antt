@@ -5,10 +5,11 @@ use mathlib.Core.Bool.{Bool, cond}
 use mathlib.Core.List.{List, [], _∷_, map, flatMap}
 use lib.Dec.{eqb}
 use lib.ListN.{take, replicate}
-use Rattle.tally.specs.Limits.{Limits, logSize, imageSize, messageSize}
+use Rattle.tally.specs.Limits.{Limits, logSize, imageSize}
 use Rattle.tally.specs.Refusal.{numberOf}
 use Rattle.tally.specs.declared.Estimate.{Estimate}
 use Rattle.tally.specs.declared.Estimate.the-variants.{Blank, Split, Mileage}
+use Rattle.codec.specs.Messages.{emptyBytes}
 use Rattle.agreement.specs.Bytes as B
 use Rattle.agreement.specs.Contents as C
 use Rattle.agreement.specs.Worlds.{Setup, Proposal, Decision, run}
@@ -52,9 +53,9 @@ zeros k = replicate k 0
 -- over bytes: each is the call on the unit's own log and image, with an output or image buffer of the right length
 abbrev pub byteEvent : Limits → Event → List B.Event
 byteEvent l Event.Malformed = []
-byteEvent l (Event.Propose u v) = B.proposal u v (zeros (messageSize l)) ∷ []
-byteEvent l (Event.Deliver u k) = B.delivery u k (zeros (messageSize l)) ∷ []
-byteEvent l (Event.Cut u k) = B.cut u k (zeros (messageSize l)) ∷ []
+byteEvent l (Event.Propose u v) = B.proposal u v (emptyBytes l) ∷ []
+byteEvent l (Event.Deliver u k) = B.delivery u k (emptyBytes l) ∷ []
+byteEvent l (Event.Cut u k) = B.cut u k (emptyBytes l) ∷ []
 byteEvent l (Event.KeyOff u) = B.off u ∷ []
 byteEvent l (Event.KeyOn u) = B.on u (zeros (imageSize l)) ∷ []
 
@@ -110,8 +111,14 @@ unfoldable pub contentsAfter : Limits → Header → List Event → C.ContentsWo
 contentsAfter l h es = run (C.step l (h .n)) (C.begun (setupOf h)) (history l (start h) es)
 
 -- at the start each unit is started in buffers of zeros
+abbrev pub startLog : Limits → ℕ → List ℕ
+startLog l u = zeros (logSize l)
+
+abbrev pub startImage : Limits → ℕ → List ℕ
+startImage l u = zeros (imageSize l)
+
 abbrev pub startBytes : Limits → Header → B.ByteWorld
-startBytes l h = B.begun l (setupOf h) (λ u. zeros (logSize l)) (λ u. zeros (imageSize l))
+startBytes l h = B.begun l (setupOf h) (startLog l) (startImage l)
 
 unfoldable pub bytesAfter : Limits → Header → List Event → B.ByteWorld
 bytesAfter l h es = run (B.step l (h .n)) (startBytes l h) (byteHistory l (start h) es)

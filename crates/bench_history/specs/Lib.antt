@@ -1,3 +1,5 @@
 pub mod History
 pub mod Claims
+pub mod Calls
 pub mod Covered
+pub mod Listed

@@ -1,25 +1,31 @@
 -- What it says that a unit accepts. Assumes nothing.
-use Prim.Native.Nat.{ℕ, _<_}
-use mathlib.Core.Path.{_≡_, refl, sym}
+use Prim.Native.Nat.{ℕ, _≤_, _<_}
+use mathlib.Core.Path.{_≡_, refl, sym, ap, _∙_}
 use mathlib.Core.Bool.{Bool, true, false, cond}
 use native.Mathlib.Omega.{arith}
 use lib.Dec.{eqb}
-use borrow.Author.Tests.{eqb-true, eqb-false, leb-false, not-false}
+use borrow.Author.Tests.{eqb-true, eqb-false, leb-false, le-leb, not-false}
 use Rattle.tally.specs.Limits.{Limits}
 use Rattle.tally.specs.Refusal.{numberOf}
+use Rattle.tally.specs.declared.Refusal.{Refusal}
 use Rattle.tally.proofs.Never.{never}
-use Rattle.consensus.specs.Methods.{isUp, deliver, keyOff, keyOn}
+use Rattle.consensus.specs.Methods.{isUp, refuses, unless, propose, deliver, keyOff, keyOn}
+use Rattle.consensus.specs.Rows.{firstOf}
 use Rattle.consensus.specs.Step.{quiet, recovered}
 use Rattle.consensus.specs.Units.{unitLog, downUnit}
 use Rattle.consensus.specs.declared.Answer.{Answer}
 use Rattle.consensus.specs.declared.Power.{Power}
 use Rattle.consensus.specs.declared.Power.the-variants.{Down, Up}
 use Rattle.consensus.specs.declared.Unit as U
+use Rattle.consensus.proofs.Answers.{deliver-power}
 use Rattle.consensus.proofs.Order.{first-lowest}
+use Rattle.consensus.proofs.Refusals.{propose-down}
+use Rattle.bench_script.specs.declared.Event.{Event}
 use Rattle.bench_play.specs.Bench.{unitAt, messageAt}
-use Rattle.bench_play.specs.Play.{deliveryRows, delivery, cutShort}
+use Rattle.bench_play.specs.Play.{deliveryRows, delivery, cutShort, unitAnswer, answer}
 use Rattle.bench_play.specs.declared.Bench.{Bench}
-use Rattle.bench_play.proofs.Settled.{unless-accepts}
+use Rattle.bench_play.specs.declared.Reply.{Reply}
+use Rattle.bench_play.proofs.Settled.{by-answer, unless-accepts}
 
 abbrev pub Accepts : Answer → Type 0
 Accepts a = numberOf (a .refusal) ≡ 0
@@ -31,6 +37,14 @@ is-up Up h = refl
 is-down : (p : Power) → isUp p ≡ false → p ≡ Down
 is-down Down h = refl
 is-down Up h = never (sym h)
+
+-- an accepted proposal is to an up unit
+pub proposal-up : (l : Limits) (x : U.Unit) (v : ℕ) → Accepts (propose l x v) → x .power ≡ Up
+proposal-up l x v number = go (x .power) refl
+  where
+    go : (p : Power) → x .power ≡ p → p ≡ Up
+    go Up e = refl
+    go Down e = absurd (omega (arith, propose-down l x v e .number, number))
 
 -- a delivery that is accepted is of a message sent, to an up unit
 pub record Delivered (l : Limits) (b : Bench) (u k : ℕ) : Type 0 where
@@ -45,6 +59,16 @@ delivered l b u k zero =
     let none = first-lowest (deliveryRows b u k) (omega arith, (omega arith, tt)) .accepted (a .0) in
     record { up = is-up _ (not-false _ (none .0)); sent = leb-false _ _ (none .1 .0); same = a .1 }
 
+-- 9 before 10, whatever the message; and 10 before the unit's own numbers
+pub delivery-down : (l : Limits) (b : Bench) (u k : ℕ) → unitAt b u .power ≡ Down → delivery l b u k ≡ refuses (unitAt b u) Refusal.Power
+unfolding delivery deliveryRows unless firstOf
+delivery-down l b u k down = rw down
+
+pub delivery-unsent : (l : Limits) (b : Bench) (u k : ℕ) → unitAt b u .power ≡ Up → b .kept ≤ k
+    → delivery l b u k ≡ refuses (unitAt b u) Refusal.Unsent
+unfolding delivery deliveryRows unless firstOf
+delivery-unsent l b u k up unsent = rw (up, le-leb (b .kept) k unsent)
+
 -- a cut that is accepted is a delivery that is, and the key off after it
 pub cut-accepted : (a : Answer) → Accepts (cutShort a) → Accepts a × (cutShort a ≡ keyOff (a .unit))
 unfolding cutShort
@@ -55,6 +79,22 @@ cut-accepted a = go (eqb (numberOf (a .refusal)) 0) refl
     go true e h = (eqb-true _ _ e, refl)
     go false e h = absurd (eqb-false _ _ e h)
 
+-- a cut is refused as the delivery is: the key of an up unit can go off
+pub cut-number : (l : Limits) (b : Bench) (u k : ℕ) → numberOf (cutShort (delivery l b u k) .refusal) ≡ numberOf (delivery l b u k .refusal)
+unfolding cutShort keyOff unless firstOf
+cut-number l b u k = go (eqb (numberOf (a .refusal)) 0) refl
+  where
+    a : Answer
+    a = delivery l b u k
+
+    go : (t : Bool) → eqb (numberOf (a .refusal)) 0 ≡ t → numberOf (cond t (keyOff (a .unit)) a .refusal) ≡ numberOf (a .refusal)
+    go true e =
+        let zero = eqb-true _ _ e in
+        let d = delivered l b u k zero in
+        let up : a .unit .power ≡ Up = ap (λ (x : Answer). x .unit .power) (d .same) ∙ deliver-power l (unitAt b u) (messageAt b k) ∙ d .up in
+        rw up (sym zero)
+    go false e = refl
+
 pub off-accepted : (x : U.Unit) → Accepts (keyOff x) → keyOff x ≡ quiet (downUnit (unitLog x))
 unfolding keyOff
 off-accepted x zero = unless-accepts _ x _ zero .1
@@ -64,3 +104,19 @@ unfolding keyOn
 on-accepted x zero =
     let a = unless-accepts _ x _ zero in
     (is-down _ (first-lowest _ (omega arith, tt) .accepted (a .0) .0), a .1)
+
+-- unless 11 refuses it, the number of a line is its unit's own
+pub own-number : (l : Limits) (b : Bench) (e : Event) → (answer l b e .refusal ≡ Refusal.Full → ⊥)
+    → numberOf (unitAnswer l b e .refusal) ≡ numberOf (answer l b e .refusal)
+own-number l b e =
+    by-answer (λ (r : Reply). (r .refusal ≡ Refusal.Full → ⊥) → numberOf (unitAnswer l b e .refusal) ≡ numberOf (r .refusal)) l b e
+    (record {
+      refuses = λ some other. refl;
+      quiet = λ ok empty other. ok;
+      full = λ ok some no other. absurd (other refl);
+      sends = λ ok some room other. ok;
+    })
+
+-- what the bench accepts, its unit does
+pub accepts : (l : Limits) (b : Bench) (e : Event) → numberOf (answer l b e .refusal) ≡ 0 → Accepts (unitAnswer l b e)
+accepts l b e zero = own-number l b e (λ full. absurd (omega (arith, ap numberOf full, zero))) ∙ zero

@@ -37,15 +37,10 @@ use Rattle.consensus.specs.declared.Power.the-variants.{Up}
 use Rattle.consensus.specs.declared.Unit as U
 use Rattle.mileage.proofs.Rows.{start-refusing}
 use Rattle.mileage.specs.Calls.{Called, called, settingsFor, unlessRow, unitLengths, badLog, badImage, badMessage, badSettings, logBytes, messageBytes}
-use Rattle.mileage.specs.Calls.{startCallRows, startCall, keyOnCallRows, keyOnCall, proposeCallRows, proposeCall, deliverCallRows, deliverCall}
+use Rattle.mileage.specs.Calls.{answered, startCallRows, startCall, keyOnCallRows, keyOnCall, proposeCallRows, proposeCall, deliverCallRows}
+use Rattle.mileage.specs.Calls.{deliverCall}
 
--- an answer as bytes, where the buffers' lengths are right
-abbrev pub answered : Limits → Answer → Called
-answered l a =
-    called (numberOf (a .refusal)) (logBytes l (unitLog (a .unit))) (imageBytes l (unitImage (a .unit))) (messageBytes l (a .message .kind) (a .message))
-    (codeOf (a .decision))
-
--- the same of an answer that is accepted
+-- an answer that is accepted, as bytes
 abbrev pub accepted : Limits → Answer → Called
 accepted l a = called 0 (answered l a .log) (answered l a .image) (answered l a .out) (answered l a .decision)
 

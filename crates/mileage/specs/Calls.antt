@@ -92,6 +92,12 @@ messageBytes l Check m = toBytes (messageFormat l) m
 messageBytes l Second m = toBytes (messageFormat l) m
 messageBytes l Skip m = toBytes (messageFormat l) m
 
+-- an answer as bytes, where the buffers' lengths are right
+abbrev pub answered : Limits → Answer → Called
+answered l a =
+    called (numberOf (a .refusal)) (logBytes l (unitLog (a .unit))) (imageBytes l (unitImage (a .unit))) (messageBytes l (a .message .kind) (a .message))
+    (codeOf (a .decision))
+
 -- the up unit that a log and an image hold
 abbrev pub unitOf : Limits → List ℕ → List ℕ → U.Unit
 unitOf l log image = upUnit (readLog l log .contents) (readImage l image .contents)

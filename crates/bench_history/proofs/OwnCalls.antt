@@ -1,0 +1,165 @@
+-- Each line is the call on its unit's own log and image, which answers what the bench's unit does. Assumes nothing.
+use Prim.Native.Nat.{ℕ, _<_}
+use mathlib.Core.Path.{_≡_, refl, ap, subst, _∙_}
+use mathlib.Core.Bool.{Bool, true, false}
+use mathlib.Core.List.{List}
+use mathlib.Core.Logic.{inl, inr}
+use mathlib.Core.Option.{Option, none, some}
+use native.Mathlib.Omega.{arith}
+use lib.Dec.{leb}
+use lib.ListN.{getElem?, length-replicate}
+use borrow.Author.Tests.{leb-true, leb-false}
+use Rattle.tally.specs.Limits.{Limits, Sane, imageSize}
+use Rattle.tally.specs.Refusal.{numberOf}
+use Rattle.tally.specs.declared.Refusal.{Refusal}
+use Rattle.codec.specs.Images.{imageBytes}
+use Rattle.codec.specs.Messages.{emptyBytes}
+use Rattle.consensus.specs.Methods.{refuses, unless, proposeRows, propose, deliver, keyOff, keyOn}
+use Rattle.consensus.specs.Rows.{firstOf}
+use Rattle.consensus.specs.Step.{recovered}
+use Rattle.consensus.specs.Units.{WellFormed, unitLog, unitImage, atLog, downUnit}
+use Rattle.consensus.specs.declared.Power.{Power}
+use Rattle.consensus.specs.declared.Power.the-variants.{Down, Up}
+use Rattle.mileage.specs.Calls.{Called, logBytes, answered}
+use Rattle.mileage.proofs.Encoded.{propose-encoded, key-on-encoded}
+use Rattle.agreement.specs.Bytes as B
+use Rattle.agreement.specs.Contents as C
+use Rattle.agreement.specs.Encoded.{unitBytesAt, Encodes}
+use Rattle.agreement.proofs.Encoding.{Valid}
+use Rattle.agreement.proofs.Follows.{sent-at}
+use Rattle.agreement.proofs.Theorem.{valid}
+use Rattle.bench_script.specs.Script.{eventUnit, inRanges}
+use Rattle.bench_script.specs.declared.Event.{Event}
+use Rattle.bench_script.specs.declared.Header.{Header}
+use Rattle.bench_play.specs.Bench.{unitAt, messageAt, settle}
+use Rattle.bench_play.specs.Claims.{Sized}
+use Rattle.bench_play.specs.Play.{Played, deliveryRows, delivery, cutShort, unitAnswer, answer}
+use Rattle.bench_play.specs.declared.Bench.{Bench}
+use Rattle.bench_play.proofs.Accepting.{cut-number, own-number, accepts}
+use Rattle.bench_history.specs.Calls.{proposeWith, deliverWith, keyOnWith, callOf, AsUnit, NoCall, OwnCall}
+use Rattle.bench_history.specs.Covered.{after, rows, EachLine}
+use Rattle.bench_history.specs.History.{setupOf, zeros, Below, Shows, contentsAfter, bytesAfter}
+use Rattle.bench_history.proofs.Accepted.{sent-at as bench-sent}
+use Rattle.bench_history.proofs.ByteHistory.{out-size, kept-bytes, called, bytes-simulated}
+use Rattle.bench_history.proofs.Lines.{below-parts}
+use Rattle.bench_history.proofs.Lists.{past-taken}
+use Rattle.bench_history.proofs.Simulation.{reached-sized, simulated, after-inv}
+
+-- what is claimed of a line by whether it is a call
+abbrev Of : Limits → Bench → Event → Option Called → Type 0
+Of l b e none = NoCall e (answer l b e .refusal)
+Of l b e (some x) = AsUnit l b e x
+
+-- the call's number, of the unit's own answer
+unit-number : (l : Limits) (b : Bench) (e : Event) (x : Called) → AsUnit l b e x → x .number ≡ numberOf (unitAnswer l b e .refusal)
+unfolding unitAnswer
+unit-number l b Event.Malformed x h = absurd h
+unit-number l b (Event.Propose u v) x h = rw h
+unit-number l b (Event.Deliver u k) x h = rw h
+unit-number l b (Event.Cut u k) x h = rw (h, cut-number l b u k)
+unit-number l b (Event.KeyOff u) x h = absurd h
+unit-number l b (Event.KeyOn u) x h = rw h
+
+-- a line that is no call and not K is refused
+no-call-refused : (e : Event) (r : Refusal) → ((u : ℕ) → e ≡ Event.KeyOff u → ⊥) → NoCall e r → numberOf r ≡ 0 → ⊥
+no-call-refused Event.Malformed r other q zero = omega (arith, ap numberOf q, zero)
+no-call-refused (Event.Propose u v) r other q zero = omega (arith, ap numberOf q, zero)
+no-call-refused (Event.Deliver u k) r other (inl q) zero = omega (arith, ap numberOf q, zero)
+no-call-refused (Event.Deliver u k) r other (inr q) zero = omega (arith, ap numberOf q, zero)
+no-call-refused (Event.Cut u k) r other (inl q) zero = omega (arith, ap numberOf q, zero)
+no-call-refused (Event.Cut u k) r other (inr q) zero = omega (arith, ap numberOf q, zero)
+no-call-refused (Event.KeyOff u) r other q zero = other u refl
+no-call-refused (Event.KeyOn u) r other q zero = omega (arith, ap numberOf q, zero)
+
+module _ (l : Limits) (sane : Sane l) (n : ℕ) (b : Bench) (sized : Sized b) (rows : List Played) (w : C.ContentsWorld) (shows : Shows n b rows w)
+    (c : B.ByteWorld) (enc : Encodes l n c w) (ok : Valid l n w) where
+  module _ (u : ℕ) (below : u < n) where
+    same : w .units u ≡ unitAt b u
+    same = shows .units u below
+
+    well : WellFormed l (unitAt b u)
+    well = rw same at (ok .units u below)
+
+    -- the unit's bytes, by whether it is up
+    by-power : (P : B.UnitBytes → Type 0)
+        → (unitAt b u .power ≡ Up → P (B.up (logBytes l (unitLog (unitAt b u))) (imageBytes l (unitImage (unitAt b u)))))
+        → (unitAt b u .power ≡ Down → P (B.down (logBytes l (unitLog (unitAt b u)))))
+        → P (c .units u)
+    by-power P up down = rw (enc .units u below, same) (go (unitAt b u .power) refl)
+      where
+        go : (p : Power) → unitAt b u .power ≡ p → P (unitBytesAt l p (unitAt b u))
+        go Up e = up e
+        go Down e = down e
+
+    -- a delivery or a cut of it: to a down unit, of no message sent, or the call
+    by-delivery : (P : Option Called → Type 0) (k : ℕ) → (delivery l b u k ≡ refuses (unitAt b u) Refusal.Power → P none)
+        → (delivery l b u k ≡ refuses (unitAt b u) Refusal.Unsent → P none) → P (some (answered l (delivery l b u k)))
+        → P (deliverWith l (c .units u .log) (c .units u .image) (getElem? (c .sent) k))
+    unfolding delivery deliveryRows unless firstOf
+    by-delivery P k down unsent sent =
+        by-power (λ (x : B.UnitBytes). P (deliverWith l (x .log) (x .image) (getElem? (c .sent) k))) (λ on. go on (leb (b .kept) k) refl)
+        (λ off. down (rw off))
+      where
+        go : unitAt b u .power ≡ Up → (t : Bool) → leb (b .kept) k ≡ t
+            → P (deliverWith l (logBytes l (unitLog (unitAt b u))) (some (imageBytes l (unitImage (unitAt b u)))) (getElem? (c .sent) k))
+        go on true e = rw (enc .sent, sent-at l (w .sent) k, shows .sent, past-taken (b .messages) (b .kept) k (leb-true _ _ e)) (unsent (rw (on, e)))
+        go on false e =
+            let there = bench-sent l n b sized rows w shows k (leb-false _ _ e) in
+            let is-on : w .units u .power ≡ Up = rw same on in
+            let is-delivered : delivery l b u k ≡ deliver l (unitAt b u) (messageAt b k) = rw (on, e) in
+            rw (
+              kept-bytes l sane n c w enc ok u below k (messageAt b k) there,
+              rw same at (called l sane n c w enc ok u below k (messageAt b k) there is-on),
+            )
+            (subst (λ a. P (some (answered l a))) is-delivered sent)
+
+  own : (e : Event) → eventUnit e < n → Of l b e (callOf l c e)
+  unfolding callOf answer unitAnswer settle cutShort propose proposeRows keyOff keyOn unless firstOf recovered downUnit atLog
+  own Event.Malformed below = refl
+  own (Event.Propose u v) below =
+      by-power u below (λ (x : B.UnitBytes). Of l b (Event.Propose u v) (proposeWith l (x .log) (x .image) v))
+      (λ on. propose-encoded l sane (unitAt b u) (well u below) on v (emptyBytes l) (out-size l)) (λ off. rw off)
+  own (Event.Deliver u k) below = by-delivery u below (Of l b (Event.Deliver u k)) k (λ q. inl (rw q)) (λ q. inr (rw q)) refl
+  own (Event.Cut u k) below = by-delivery u below (Of l b (Event.Cut u k)) k (λ q. inl (rw q)) (λ q. inr (rw q)) refl
+  own (Event.KeyOff u) below = by-power u below (λ x. Of l b (Event.KeyOff u) none) (λ on. inl (rw on)) (λ off. inr (rw off))
+  own (Event.KeyOn u) below =
+      by-power u below (λ (x : B.UnitBytes). Of l b (Event.KeyOn u) (keyOnWith l (x .log) (x .image))) (λ on. rw on)
+      (λ off. rw off (key-on-encoded l sane (unitLog (unitAt b u)) (zeros (imageSize l)) (well u below .log) (length-replicate (imageSize l) 0)))
+
+  -- an accepted K is of an up unit
+  key-off : (e : Event) → eventUnit e < n → (u : ℕ) → e ≡ Event.KeyOff u → numberOf (answer l b e .refusal) ≡ 0
+      → (image : List ℕ) × (c .units u .image ≡ some image)
+  unfolding answer unitAnswer settle keyOff unless firstOf
+  key-off e below u q =
+      let at : u < n = rw (ap eventUnit q) at below in
+      rw q
+      (by-power u at (λ (x : B.UnitBytes). numberOf (answer l b (Event.KeyOff u) .refusal) ≡ 0 → (image : List ℕ) × (x .image ≡ some image))
+      (λ on zero. (imageBytes l (unitImage (unitAt b u)), refl)) (λ off zero. absurd (omega (arith, rw off at zero))))
+
+  own-call : (e : Event) → eventUnit e < n → OwnCall l c b e
+  own-call e below =
+      record {
+        accepted = λ zero other. made zero other (callOf l c e) refl;
+        key-off = key-off e below;
+        number = number;
+        answers = answers;
+        no-call = λ q. subst (Of l b e) q (own e below);
+      }
+    where
+      answers : (x : Called) → callOf l c e ≡ some x → AsUnit l b e x
+      answers x q = subst (Of l b e) q (own e below)
+
+      number : (x : Called) → callOf l c e ≡ some x → (answer l b e .refusal ≡ Refusal.Full → ⊥) → x .number ≡ numberOf (answer l b e .refusal)
+      number x q other = unit-number l b e x (answers x q) ∙ own-number l b e other
+
+      made : numberOf (answer l b e .refusal) ≡ 0 → ((u : ℕ) → e ≡ Event.KeyOff u → ⊥) → (o : Option Called) → callOf l c e ≡ o
+          → (x : Called) × ((callOf l c e ≡ some x) × (x .number ≡ 0))
+      made zero other none q = absurd (no-call-refused e _ other (subst (Of l b e) q (own e below)) zero)
+      made zero other (some x) q = (x, (q, unit-number l b e x (answers x q) ∙ accepts l b e zero))
+
+pub calls : (l : Limits) → Sane l → (h : Header) → inRanges (h .n) (h .entry) ≡ true → (es : List Event) → Below (h .n) es
+    → EachLine es (λ before e. OwnCall l (bytesAfter l h before) (after l h before) e)
+calls l sane h range es below before later e split =
+    let parts = below-parts (h .n) before e later (subst (Below (h .n)) split below) in
+    own-call l sane (h .n) (after l h before) (reached-sized h l before) (rows l h before) (contentsAfter l h before) (simulated h range l before (parts .0))
+    (bytesAfter l h before) (bytes-simulated l sane h range before (parts .0)) (valid l sane (setupOf h) _ (after-inv h range l before (parts .0))) e (parts .1)

@@ -1,0 +1,79 @@
+-- The call that a line is, and what is claimed of it: each accepted line is an accepted call on that unit's own log and image, and each message
+-- delivered was sent. Assumes nothing.
+use Prim.Native.Nat.{ℕ}
+use mathlib.Core.Path.{_≡_}
+use mathlib.Core.List.{List, []}
+use mathlib.Core.Logic.{_⊎_}
+use mathlib.Core.Option.{Option, none, some}
+use lib.ListN.{getElem?}
+use Rattle.tally.specs.Limits.{Limits, imageSize}
+use Rattle.tally.specs.Refusal.{numberOf}
+use Rattle.tally.specs.declared.Refusal.{Refusal}
+use Rattle.codec.specs.Messages.{emptyBytes}
+use Rattle.consensus.specs.Methods.{propose, keyOn}
+use Rattle.mileage.specs.Calls.{Called, called, answered, keyOnCall, proposeCall, deliverCall}
+use Rattle.agreement.specs.Bytes as B
+use Rattle.bench_script.specs.declared.Event.{Event}
+use Rattle.bench_play.specs.Bench.{unitAt}
+use Rattle.bench_play.specs.Play.{delivery, answer}
+use Rattle.bench_play.specs.declared.Bench.{Bench}
+use Rattle.bench_history.specs.History.{zeros}
+
+-- ---- the call: P, D and W of an up unit, D and W of a message that was sent, U of a down unit; the buffer that it writes held zeros
+
+-- with the unit's log and its image, none where it is down
+abbrev pub proposeWith : Limits → List ℕ → Option (List ℕ) → ℕ → Option Called
+proposeWith l log (some image) v = some (proposeCall l log image v (emptyBytes l))
+proposeWith l log none v = none
+
+-- and the message, none where it was not sent
+abbrev pub deliverWith : Limits → List ℕ → Option (List ℕ) → Option (List ℕ) → Option Called
+deliverWith l log (some image) (some m) = some (deliverCall l log image m (emptyBytes l))
+deliverWith l log (some image) none = none
+deliverWith l log none m = none
+
+abbrev pub keyOnWith : Limits → List ℕ → Option (List ℕ) → Option Called
+keyOnWith l log none = some (keyOnCall l log (zeros (imageSize l)))
+keyOnWith l log (some image) = none
+
+-- in the world w; K and a malformed line are no call
+unfoldable pub callOf : Limits → B.ByteWorld → Event → Option Called
+callOf l w Event.Malformed = none
+callOf l w (Event.Propose u v) = proposeWith l (w .units u .log) (w .units u .image) v
+callOf l w (Event.Deliver u k) = deliverWith l (w .units u .log) (w .units u .image) (getElem? (w .sent) k)
+callOf l w (Event.Cut u k) = deliverWith l (w .units u .log) (w .units u .image) (getElem? (w .sent) k)
+callOf l w (Event.KeyOff u) = none
+callOf l w (Event.KeyOn u) = keyOnWith l (w .units u .log) (w .units u .image)
+
+-- ---- what is claimed of it
+
+-- the call c answers what the bench's unit does, as bytes: for W before the key goes off, and key-on has no output
+abbrev pub AsUnit : Limits → Bench → Event → Called → Type 0
+AsUnit l b Event.Malformed c = ⊥
+AsUnit l b (Event.Propose u v) c = c ≡ answered l (propose l (unitAt b u) v)
+AsUnit l b (Event.Deliver u k) c = c ≡ answered l (delivery l b u k)
+AsUnit l b (Event.Cut u k) c = c ≡ answered l (delivery l b u k)
+AsUnit l b (Event.KeyOff u) c = ⊥
+AsUnit l b (Event.KeyOn u) c = let a = answered l (keyOn (unitAt b u)) in c ≡ called (a .number) (a .log) (a .image) [] (a .decision)
+
+-- what a line that is no call is answered with: 8, 9 or 10; K alone may be accepted
+abbrev pub NoCall : Event → Refusal → Type 0
+NoCall Event.Malformed r = r ≡ Refusal.Line
+NoCall (Event.Propose u v) r = r ≡ Refusal.Power
+NoCall (Event.Deliver u k) r = (r ≡ Refusal.Power) ⊎ (r ≡ Refusal.Unsent)
+NoCall (Event.Cut u k) r = (r ≡ Refusal.Power) ⊎ (r ≡ Refusal.Unsent)
+NoCall (Event.KeyOff u) r = (r ≡ Refusal.None) ⊎ (r ≡ Refusal.Power)
+NoCall (Event.KeyOn u) r = r ≡ Refusal.Power
+
+-- of the line e in the world w, where the bench is b
+pub record OwnCall (l : Limits) (w : B.ByteWorld) (b : Bench) (e : Event) : Type 0 where
+  -- an accepted line but K is an accepted call, and an accepted K is of an up unit
+  pub accepted : numberOf (answer l b e .refusal) ≡ 0 → ((u : ℕ) → e ≡ Event.KeyOff u → ⊥)
+      → (c : Called) × ((callOf l w e ≡ some c) × (c .number ≡ 0))
+  pub key-off : (u : ℕ) → e ≡ Event.KeyOff u → numberOf (answer l b e .refusal) ≡ 0 → (image : List ℕ) × (w .units u .image ≡ some image)
+  -- a call's number is the line's, 5 and 6 too, unless the line is refused with 11
+  pub number : (c : Called) → callOf l w e ≡ some c → (answer l b e .refusal ≡ Refusal.Full → ⊥) → c .number ≡ numberOf (answer l b e .refusal)
+  -- and it answers all that the bench's unit does
+  pub answers : (c : Called) → callOf l w e ≡ some c → AsUnit l b e c
+  -- where no call is made, the bench itself refuses, K apart
+  pub no-call : callOf l w e ≡ none → NoCall e (answer l b e .refusal)
