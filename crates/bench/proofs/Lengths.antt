@@ -8,7 +8,6 @@ use lib.Dec.{leb, eqb}
 use lib.ListN.{length, drop, length-append, length-drop}
 use borrow.Author.Tests.{leb-true, leb-false}
 use Rattle.tally.specs.Limits.{Limits, places, scriptSize}
-use Rattle.tally.specs.declared.Refusal.{Refusal}
 use Rattle.codec.specs.Codes.{letterOf}
 use Rattle.bench_script.specs.Numbers.{maxDigits}
 use Rattle.bench_script.specs.Parts.{comma, newline, onto, parted}
@@ -18,12 +17,11 @@ use Rattle.bench_script.specs.declared.Header.{Header}
 use Rattle.bench_script.proofs.EventLines.{short-line}
 use Rattle.bench_script.proofs.HeaderLines.{ranges}
 use Rattle.bench_script.proofs.Parting.{Some, parted-some}
-use Rattle.bench_play.specs.Bench.{start, refused}
+use Rattle.bench_play.specs.Bench.{start}
 use Rattle.bench_play.specs.Play.{answer, play, benchAfter}
 use Rattle.bench_play.specs.declared.Bench.{Bench}
 use Rattle.bench_play.specs.declared.Reply.{Reply}
 use Rattle.bench_play.proofs.Rows.{answer-kept}
-use Rattle.bench_play.proofs.Settled.{answer-line}
 use Rattle.bench_text.specs.Text.{decimal, shownText, fieldText, lineText, headerText, rowFields, rowText, endText}
 use Rattle.bench_text.specs.declared.Row.{Row}
 use Rattle.bench_text.specs.declared.Shown.{Shown}
@@ -31,7 +29,7 @@ use Rattle.bench_text.proofs.Digits.{digits-most, digits-short}
 use Rattle.bench.specs.Listing.{rowOf, rowsText, headerLine, malformedRow, malformedText}
 use Rattle.bench.specs.Turns.{eventsFrom, restText}
 use Rattle.bench.specs.Widths.{indexWidth, keptWidth, headerWidth, malformedWidth, endWidth, maxListing}
-use Rattle.bench.proofs.Rest.{none-kept}
+use Rattle.bench.proofs.Rest.{malformed-line, none-kept}
 
 -- ---- the bytes of parts, with those between
 
@@ -92,12 +90,12 @@ unfolding rowText
 row-length r = line-text (rowFields r)
 
 module _ (i : ℕ) (small : i < 10 ^ indexWidth) where
-  row-malformed : (b : Bench) → length (rowText (rowOf i Event.Malformed (refused b Refusal.Line))) ≤ malformedWidth
-  unfolding rowOf
-  row-malformed b =
+  row-malformed : length (rowText (malformedRow i)) ≤ malformedWidth
+  unfolding malformedRow
+  row-malformed =
       omega (
         arith,
-        row-length (rowOf i Event.Malformed (refused b Refusal.Line)),
+        row-length (malformedRow i),
         number-most 4 i small,
         letter-length questionMark,
         number-most 0 8 (omega arith),
@@ -127,7 +125,7 @@ module _ (l : Limits) (n : ℕ) where
   line-length b i p small = go (leb 3 (length p)) refl
     where
       none : eventOf n p ≡ Event.Malformed → length (rowText (rowOf i (eventOf n p) (answer l b (eventOf n p)))) ≤ malformedWidth
-      none e = rw (e, answer-line l b) (row-malformed i small b)
+      none e = rw (e, malformed-line l b i) (row-malformed i small)
 
       go : (t : Bool) → leb 3 (length p) ≡ t → length (rowText (rowOf i (eventOf n p) (answer l b (eventOf n p)))) ≤ malformedWidth * suc (length p)
       go true h = omega (arith, leb-true 3 (length p) h, row-any i small (eventOf n p) (answer l b (eventOf n p)))
@@ -136,7 +134,7 @@ module _ (l : Limits) (n : ℕ) where
   left-length : (b : Bench) (i : ℕ) (p : List ℕ) → i < 10 ^ indexWidth → length (rowsText i (play l b (unended p))) ≤ malformedWidth * length p
   unfolding rowsText play
   left-length b i [] small = omega arith
-  left-length b i (x ∷ p) small = rw (answer-line l b, length-append) (omega (arith, row-malformed i small b))
+  left-length b i (x ∷ p) small = rw (malformed-line l b i, length-append) (omega (arith, row-malformed i small))
 
   rows-length : (b : Bench) (i : ℕ) (ps : List (List ℕ)) → i + size ps < 10 ^ indexWidth
       → length (rowsText i (play l b (eventsOf n ps))) ≤ malformedWidth * size ps

@@ -13,14 +13,20 @@ use Rattle.bench_play.specs.Bench.{start}
 use Rattle.bench_play.specs.Play.{answer, play, benchAfter}
 use Rattle.bench_play.specs.declared.Bench.{Bench}
 use Rattle.bench_play.specs.declared.Reply.{Reply}
+use Rattle.bench_play.proofs.Settled.{answer-line}
 use Rattle.bench_text.specs.Text.{rowText, endText, Puts}
 use Rattle.bench_text.specs.declared.Row.{Row}
 use Rattle.bench_text.proofs.Appending.{sets-append, room-first}
-use Rattle.bench.specs.Listing.{rowOf, rowsText}
+use Rattle.bench.specs.Listing.{rowOf, rowsText, malformedRow}
 use Rattle.bench.specs.Turns.{eventsFrom, restText, LineAt, Turned}
 use Rattle.bench.specs.declared.turns.Line.{Line}
 use Rattle.bench.specs.declared.turns.Turn.{Turn}
 use Rattle.bench.proofs.Lines.{events-end}
+
+-- the row of a malformed line
+pub malformed-line : (l : Limits) (b : Bench) (i : ℕ) → rowOf i Event.Malformed (answer l b Event.Malformed) ≡ malformedRow i
+unfolding rowOf malformedRow
+malformed-line l b i = rw (answer-line l b)
 
 -- a row, and then the rest
 pub rest-turn : (l : Limits) (b : Bench) (i : ℕ) (e : Event) (es : List Event)

@@ -66,13 +66,14 @@ headerLine h = headerText (letterOf (h .engine)) (h .n) (h .entry)
 unfoldable pub playedText : Limits → Header → List Event → List ℕ
 playedText l h es = headerLine h ++ (rowsText 1 (play l (start h) es) ++ endText (length es) (benchAfter l (start h) es .kept))
 
--- a malformed header prints `0,?,-,8,-,-` and `end,0,0`
-unfoldable pub malformedRow : Row
-malformedRow =
-    record { index = 0; letter = questionMark; unit = Shown.Dash; number = numberOf Refusal.Line; sent = Shown.Dash; decision = Shown.Dash }
+-- `index,?,-,8,-,-`: what a malformed line prints (`malformed-line`)
+unfoldable pub malformedRow : ℕ → Row
+malformedRow i =
+    record { index = i; letter = questionMark; unit = Shown.Dash; number = numberOf Refusal.Line; sent = Shown.Dash; decision = Shown.Dash }
 
+-- a malformed header prints `0,?,-,8,-,-` and `end,0,0`
 unfoldable pub malformedText : List ℕ
-malformedText = rowText malformedRow ++ endText 0 0
+malformedText = rowText (malformedRow 0) ++ endText 0 0
 
 abbrev pub scriptText : Limits → Script → List ℕ
 scriptText l malformed = malformedText

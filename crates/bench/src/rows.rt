@@ -61,7 +61,7 @@ pub(crate) fn row(index: u32, e: Event, reply: Reply) -> Row
 
 // The line of a malformed header.
 pub(crate) fn malformed_row() -> Row
-    ensures { λ r. ⌜ r ≡ malformedRow ⌝ }
+    ensures { λ r. ⌜ r ≡ malformedRow 0 ⌝ }
 {
     Row {
         index: 0,

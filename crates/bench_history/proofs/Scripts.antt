@@ -5,7 +5,8 @@ use mathlib.Core.Bool.{true}
 use mathlib.Core.List.{List, [], _∷_}
 use borrow.Author.Tests.{le-leb}
 use lib.ListN.{length}
-use Rattle.tally.specs.Limits.{Limits, Sane, scriptSize}
+use Rattle.tally.specs.Limits.{Limits, Sane, today, scriptSize}
+use Rattle.tally.proofs.Bounds.{sane-today}
 use Rattle.bench_script.specs.Parts.{newline, parted}
 use Rattle.bench_script.specs.Script.{inRanges, headerOf, eventsOf, Script, malformed, script, withHeader, fromLines, parse}
 use Rattle.bench_script.specs.declared.Event.{Event}
@@ -66,3 +67,7 @@ listed l sane s =
           let c = covered-script l sane s h es e in
           rw (le-leb (length s) scriptSize short, e, c .as-many, ← c .kept);
     }
+
+-- of the listing that is printed
+pub listed-today : (s : List ℕ) → Listed today s
+listed-today = listed today sane-today

@@ -4,8 +4,7 @@ use mathlib.Core.Bool.{true}
 use mathlib.Core.List.{List}
 use native.Mathlib.Omega.{arith}
 use Rattle.tally.specs.Count.{passing}
-use Rattle.tally.specs.Limits.{Limits, Sane, today}
-use Rattle.tally.proofs.Bounds.{sane-today}
+use Rattle.tally.specs.Limits.{Limits, Sane}
 use Rattle.bench_script.specs.Script.{inRanges}
 use Rattle.bench_script.specs.declared.Event.{Event}
 use Rattle.bench_script.specs.declared.Header.{Header}
@@ -49,6 +48,3 @@ covered l sane h range es below =
       numbers = rw kept (n .numbers);
       numbers-met = λ bound. numbers-met l h range bound es below;
     }
-
-pub covered-today : (h : Header) → inRanges (h .n) (h .entry) ≡ true → (es : List Event) → Below (h .n) es → Covered today h es
-covered-today = covered today sane-today

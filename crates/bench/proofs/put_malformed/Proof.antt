@@ -15,7 +15,7 @@ put-malformed-spec =
     (λ c κs. search needs)
     (λ c κs.
     let s = c .before .before .before in
-    rw (c .malformed-row .ensures) (room-first 0 (rowText malformedRow) (endText 0 0) (s .args .out .now) (omega (arith, malformed-length, s .pre))))
+    rw (c .malformed-row .ensures) (room-first 0 (rowText (malformedRow 0)) (endText 0 0) (s .args .out .now) (omega (arith, malformed-length, s .pre))))
     (λ c κs.
     let p = c .before .before .before in
     let s = p .before .before .before .before in
