@@ -7,7 +7,7 @@ use native.Mathlib.Omega.{arith}
 use lib.Dec.{leb, eqb}
 use lib.ListN.{length, drop, length-append, length-drop}
 use borrow.Author.Tests.{leb-true, leb-false}
-use Rattle.tally.specs.Limits.{Limits, places, scriptSize}
+use Rattle.tally.specs.Limits.{Limits, scriptSize}
 use Rattle.codec.specs.Codes.{letterOf}
 use Rattle.bench_script.specs.Numbers.{maxDigits}
 use Rattle.bench_script.specs.Parts.{comma, newline, onto, parted}
@@ -21,7 +21,7 @@ use Rattle.bench_play.specs.Bench.{start}
 use Rattle.bench_play.specs.Play.{answer, play, benchAfter}
 use Rattle.bench_play.specs.declared.Bench.{Bench}
 use Rattle.bench_play.specs.declared.Reply.{Reply}
-use Rattle.bench_play.proofs.Rows.{answer-kept}
+use Rattle.bench_play.proofs.Rows.{reached-sized}
 use Rattle.bench_text.specs.Text.{decimal, shownText, fieldText, lineText, headerText, rowFields, rowText, endText}
 use Rattle.bench_text.specs.declared.Row.{Row}
 use Rattle.bench_text.specs.declared.Shown.{Shown}
@@ -29,7 +29,7 @@ use Rattle.bench_text.proofs.Digits.{digits-most, digits-short}
 use Rattle.bench.specs.Listing.{rowOf, rowsText, headerLine, malformedRow, malformedText}
 use Rattle.bench.specs.Turns.{eventsFrom, restText}
 use Rattle.bench.specs.Widths.{indexWidth, keptWidth, headerWidth, malformedWidth, endWidth, maxListing}
-use Rattle.bench.proofs.Rest.{malformed-line, none-kept}
+use Rattle.bench.proofs.Rest.{malformed-line}
 
 -- ---- the bytes of parts, with those between
 
@@ -156,11 +156,6 @@ module _ (l : Limits) (n : ℕ) where
   events-count (p ∷ []) = left-count p
   events-count (p ∷ q ∷ ps) = omega (arith, events-count (q ∷ ps))
 
-after-kept : (l : Limits) (b : Bench) (es : List Event) → b .kept ≤ places → benchAfter l b es .kept ≤ places
-unfolding benchAfter
-after-kept l b [] h = h
-after-kept l b (e ∷ es) h = after-kept l (answer l b e .bench) es (answer-kept b h l e)
-
 -- ---- header and final line
 
 header-length : (h : Header) → inRanges (h .n) (h .entry) ≡ true → length (headerLine h) ≤ headerWidth
@@ -192,7 +187,7 @@ played-length l h s p ok short =
     let least : size ps ≤ scriptSize = omega (arith, whole, length-drop p s) in
     let rows = rows-length l (h .n) (start h) 1 ps (omega arith) in
     let count = events-count l (h .n) ps in
-    let kept = after-kept l (start h) (eventsOf (h .n) ps) (none-kept h) in
+    let kept = reached-sized h l (eventsOf (h .n) ps) .kept in
     let end = end-length (0 + length (eventsOf (h .n) ps)) (benchAfter l (start h) (eventsOf (h .n) ps) .kept) (omega (arith, count)) (omega (arith, kept)) in
     simp length-append (omega (arith, header-length h ok, rows, end))
 

@@ -6,10 +6,8 @@ use native.Mathlib.Nat.{add-zero}
 use native.Mathlib.Omega.{arith}
 use lib.ListN.{length, length-append}
 use lib.Seq.{sets}
-use Rattle.tally.specs.Limits.{Limits, places}
+use Rattle.tally.specs.Limits.{Limits}
 use Rattle.bench_script.specs.declared.Event.{Event}
-use Rattle.bench_script.specs.declared.Header.{Header}
-use Rattle.bench_play.specs.Bench.{start}
 use Rattle.bench_play.specs.Play.{answer, play, benchAfter}
 use Rattle.bench_play.specs.declared.Bench.{Bench}
 use Rattle.bench_play.specs.declared.Reply.{Reply}
@@ -40,11 +38,6 @@ rest-turn l b i e es =
 pub rest-end : (l : Limits) (b : Bench) (i : ℕ) → restText l b i [] ≡ endText i (b .kept)
 unfolding restText rowsText play benchAfter
 rest-end l b i = rw add-zero
-
--- at the start no place is filled
-pub none-kept : (h : Header) → start h .kept ≤ places
-unfolding start
-none-kept h = omega arith
 
 module _ (l : Limits) (n : ℕ) (s : List ℕ) where
   -- room for the rest is room for a row

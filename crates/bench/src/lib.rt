@@ -9,7 +9,7 @@ use bench_script::parts;
 use codec::codes;
 use tally::Refusal;
 use tally::limits;
-ghost use Prim.Native.Nat.{_+_, _≤_, _<_};
+ghost use Prim.Native.Nat.{_≤_};
 ghost use mathlib.Core.Path.{_≡_};
 ghost use mathlib.Core.Bool.{true};
 ghost use mathlib.Core.List.{_++_};
@@ -33,7 +33,7 @@ const END_WIDTH: usize = 14;
 pub const MAX_LISTING: usize = HEADER_WIDTH + MALFORMED_WIDTH * limits::SCRIPT_SIZE + END_WIDTH;
 
 // What the call answers: 0 or a number of the scope paper's table, and the bytes that the listing takes.
-pub struct Listed {
+pub struct Written {
     pub number: u32,
     pub length: usize,
 }
@@ -87,17 +87,17 @@ pub fn page() -> [u8; MAX_LISTING]
 }
 
 // The listing of a script, in a buffer that must have room for any listing; the bytes past the listing stay.
-pub fn print(script: &[u8], out: &mut [u8]) -> Listed
+pub fn print(script: &[u8], out: &mut [u8]) -> Written
     ensures { λ r. ⌜ printed (r .number) (r .length) (now (out .exit)) ≡ listingCall today (now (script .entry)) (now (out .entry)) ⌝ }
 {
     if out.len() < MAX_LISTING {
-        return Listed {
+        return Written {
             number: tally::number(Refusal::Length),
             length: 0,
         };
     }
     let length = put_listing(script, out);
-    Listed {
+    Written {
         number: tally::number(Refusal::None),
         length,
     }

@@ -43,8 +43,8 @@ use Rattle.bench_history.specs.History.{setupOf, Below, isAccepted, ofAc
 use Rattle.bench_history.specs.History.{contentsAfter, startLog, startImage, startBytes, bytesAfter}
 use Rattle.bench_play.proofs.Accepting.{Accepts, proposal-up, delivered, cut-accepted, on-accepted, accepts}
 use Rattle.bench_history.proofs.Accepted.{sent-at as bench-sent}
-use Rattle.bench_play.proofs.Rows.{row, sized-answer}
-use Rattle.bench_history.proofs.Simulation.{line, units-high, settings-ok, start-sized, start-shows}
+use Rattle.bench_play.proofs.Rows.{row, sized-answer, start-sized}
+use Rattle.bench_history.proofs.Simulation.{line, units-high, settings-ok, start-shows}
 
 -- ---- one event
 
@@ -56,10 +56,10 @@ module _ (l : Limits) (sane : Sane l) (n : ℕ) (c : B.ByteWorld) (w : C.Content
   abbrev Follows : B.Event → C.Event → Type 0
   Follows x e = Encodes l n (B.step l n c x) (C.step l n w e)
 
-  up-image : w .units u .power ≡ Up → c .units u .image ≡ some (imageBytes l (unitImage (w .units u)))
+  pub up-image : w .units u .power ≡ Up → c .units u .image ≡ some (imageBytes l (unitImage (w .units u)))
   up-image on = rw (enc .units u below, on)
 
-  no-image : w .units u .power ≡ Down → c .units u .image ≡ none
+  pub no-image : w .units u .power ≡ Down → c .units u .image ≡ none
   no-image off = rw (enc .units u below, off)
 
   byte-proposal : (v : ℕ) → w .units u .power ≡ Up → Accepts (propose l (w .units u) v)

@@ -18,13 +18,13 @@ use Rattle.bench_script.specs.declared.Header.{Header}
 use Rattle.bench_play.specs.Bench.{start}
 use Rattle.bench_play.specs.Play.{Played, answer, play, benchAfter}
 use Rattle.bench_play.specs.declared.Bench.{Bench}
-use Rattle.bench_history.specs.Claims.{ProposedIn}
+use Rattle.bench_history.specs.Covered.{ProposedIn}
 use Rattle.bench_history.specs.History.{setupOf, Below, isAccepted, ofAccepted, contentsEvent, proposalOf, proposals, Decided}
 use Rattle.bench_history.specs.History.{decidedOf, decisions, withoutRound, Shows, contentsAfter}
 use Rattle.bench_history.proofs.Lists.{flat-in, flat-from}
-use Rattle.bench_play.proofs.Rows.{row}
+use Rattle.bench_play.proofs.Rows.{row, reached-sized}
 use Rattle.bench_history.proofs.Lines.{below-parts}
-use Rattle.bench_history.proofs.Simulation.{line, reached-sized, units-high, simulated, after-inv}
+use Rattle.bench_history.proofs.Simulation.{line, units-high, simulated, after-inv}
 
 -- ---- rows and the world
 

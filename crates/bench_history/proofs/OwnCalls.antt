@@ -36,19 +36,20 @@ use Rattle.bench_play.specs.Claims.{Sized}
 use Rattle.bench_play.specs.Play.{Played, deliveryRows, delivery, cutShort, unitAnswer, answer}
 use Rattle.bench_play.specs.declared.Bench.{Bench}
 use Rattle.bench_play.proofs.Accepting.{cut-number, own-number, accepts}
-use Rattle.bench_history.specs.Calls.{proposeWith, deliverWith, keyOnWith, callOf, AsUnit, NoCall, OwnCall}
+use Rattle.bench_play.proofs.Rows.{reached-sized}
+use Rattle.bench_history.specs.Calls.{proposeWith, deliverWith, keyOnWith, callOf, AsUnit, IsUp, IsDown, NoCall, OwnCall}
 use Rattle.bench_history.specs.Covered.{after, rows, EachLine}
 use Rattle.bench_history.specs.History.{setupOf, zeros, Below, Shows, contentsAfter, bytesAfter}
 use Rattle.bench_history.proofs.Accepted.{sent-at as bench-sent}
-use Rattle.bench_history.proofs.ByteHistory.{out-size, kept-bytes, called, bytes-simulated}
+use Rattle.bench_history.proofs.ByteHistory.{out-size, up-image, no-image, kept-bytes, called, bytes-simulated}
 use Rattle.bench_history.proofs.Lines.{below-parts}
 use Rattle.bench_history.proofs.Lists.{past-taken}
-use Rattle.bench_history.proofs.Simulation.{reached-sized, simulated, after-inv}
+use Rattle.bench_history.proofs.Simulation.{simulated, after-inv}
 
 -- what is claimed of a line by whether it is a call
-abbrev Of : Limits → Bench → Event → Option Called → Type 0
-Of l b e none = NoCall e (answer l b e .refusal)
-Of l b e (some x) = AsUnit l b e x
+abbrev Of : Limits → B.ByteWorld → Bench → Event → Option Called → Type 0
+Of l c b e none = NoCall c e (answer l b e .refusal)
+Of l c b e (some x) = AsUnit l b e x
 
 -- the call's number, of the unit's own answer
 unit-number : (l : Limits) (b : Bench) (e : Event) (x : Called) → AsUnit l b e x → x .number ≡ numberOf (unitAnswer l b e .refusal)
@@ -61,15 +62,15 @@ unit-number l b (Event.KeyOff u) x h = absurd h
 unit-number l b (Event.KeyOn u) x h = rw h
 
 -- a line that is no call and not K is refused
-no-call-refused : (e : Event) (r : Refusal) → ((u : ℕ) → e ≡ Event.KeyOff u → ⊥) → NoCall e r → numberOf r ≡ 0 → ⊥
-no-call-refused Event.Malformed r other q zero = omega (arith, ap numberOf q, zero)
-no-call-refused (Event.Propose u v) r other q zero = omega (arith, ap numberOf q, zero)
-no-call-refused (Event.Deliver u k) r other (inl q) zero = omega (arith, ap numberOf q, zero)
-no-call-refused (Event.Deliver u k) r other (inr q) zero = omega (arith, ap numberOf q, zero)
-no-call-refused (Event.Cut u k) r other (inl q) zero = omega (arith, ap numberOf q, zero)
-no-call-refused (Event.Cut u k) r other (inr q) zero = omega (arith, ap numberOf q, zero)
-no-call-refused (Event.KeyOff u) r other q zero = other u refl
-no-call-refused (Event.KeyOn u) r other q zero = omega (arith, ap numberOf q, zero)
+no-call-refused : (c : B.ByteWorld) (e : Event) (r : Refusal) → ((u : ℕ) → e ≡ Event.KeyOff u → ⊥) → NoCall c e r → numberOf r ≡ 0 → ⊥
+no-call-refused c Event.Malformed r other q zero = omega (arith, ap numberOf q, zero)
+no-call-refused c (Event.Propose u v) r other q zero = omega (arith, ap numberOf (q .0), zero)
+no-call-refused c (Event.Deliver u k) r other (inl q) zero = omega (arith, ap numberOf (q .0), zero)
+no-call-refused c (Event.Deliver u k) r other (inr q) zero = omega (arith, ap numberOf (q .0), zero)
+no-call-refused c (Event.Cut u k) r other (inl q) zero = omega (arith, ap numberOf (q .0), zero)
+no-call-refused c (Event.Cut u k) r other (inr q) zero = omega (arith, ap numberOf (q .0), zero)
+no-call-refused c (Event.KeyOff u) r other q zero = other u refl
+no-call-refused c (Event.KeyOn u) r other q zero = omega (arith, ap numberOf (q .0), zero)
 
 module _ (l : Limits) (sane : Sane l) (n : ℕ) (b : Bench) (sized : Sized b) (rows : List Played) (w : C.ContentsWorld) (shows : Shows n b rows w)
     (c : B.ByteWorld) (enc : Encodes l n c w) (ok : Valid l n w) where
@@ -79,6 +80,12 @@ module _ (l : Limits) (sane : Sane l) (n : ℕ) (b : Bench) (sized : Sized b) (r
 
     well : WellFormed l (unitAt b u)
     well = rw same at (ok .units u below)
+
+    is-up : unitAt b u .power ≡ Up → IsUp c u
+    is-up on = (imageBytes l (unitImage (w .units u)), up-image l sane n c w enc ok u below (rw same on))
+
+    is-down : unitAt b u .power ≡ Down → IsDown c u
+    is-down off = no-image l sane n c w enc ok u below (rw same off)
 
     -- the unit's bytes, by whether it is up
     by-power : (P : B.UnitBytes → Type 0)
@@ -92,17 +99,20 @@ module _ (l : Limits) (sane : Sane l) (n : ℕ) (b : Bench) (sized : Sized b) (r
         go Down e = down e
 
     -- a delivery or a cut of it: to a down unit, of no message sent, or the call
-    by-delivery : (P : Option Called → Type 0) (k : ℕ) → (delivery l b u k ≡ refuses (unitAt b u) Refusal.Power → P none)
-        → (delivery l b u k ≡ refuses (unitAt b u) Refusal.Unsent → P none) → P (some (answered l (delivery l b u k)))
+    by-delivery : (P : Option Called → Type 0) (k : ℕ) → (delivery l b u k ≡ refuses (unitAt b u) Refusal.Power → IsDown c u → P none)
+        → (delivery l b u k ≡ refuses (unitAt b u) Refusal.Unsent → getElem? (c .sent) k ≡ none → P none) → P (some (answered l (delivery l b u k)))
         → P (deliverWith l (c .units u .log) (c .units u .image) (getElem? (c .sent) k))
     unfolding delivery deliveryRows unless firstOf
     by-delivery P k down unsent sent =
         by-power (λ (x : B.UnitBytes). P (deliverWith l (x .log) (x .image) (getElem? (c .sent) k))) (λ on. go on (leb (b .kept) k) refl)
-        (λ off. down (rw off))
+        (λ off. down (rw off) (is-down off))
       where
         go : unitAt b u .power ≡ Up → (t : Bool) → leb (b .kept) k ≡ t
             → P (deliverWith l (logBytes l (unitLog (unitAt b u))) (some (imageBytes l (unitImage (unitAt b u)))) (getElem? (c .sent) k))
-        go on true e = rw (enc .sent, sent-at l (w .sent) k, shows .sent, past-taken (b .messages) (b .kept) k (leb-true _ _ e)) (unsent (rw (on, e)))
+        go on true e =
+            let past = past-taken (b .messages) (b .kept) k (leb-true _ _ e) in
+            let missing : getElem? (c .sent) k ≡ none = rw (enc .sent, sent-at l (w .sent) k, shows .sent, past) in
+            rw missing (unsent (rw (on, e)) missing)
         go on false e =
             let there = bench-sent l n b sized rows w shows k (leb-false _ _ e) in
             let is-on : w .units u .power ≡ Up = rw same on in
@@ -113,48 +123,39 @@ module _ (l : Limits) (sane : Sane l) (n : ℕ) (b : Bench) (sized : Sized b) (r
             )
             (subst (λ a. P (some (answered l a))) is-delivered sent)
 
-  own : (e : Event) → eventUnit e < n → Of l b e (callOf l c e)
+  own : (e : Event) → eventUnit e < n → Of l c b e (callOf l c e)
   unfolding callOf answer unitAnswer settle cutShort propose proposeRows keyOff keyOn unless firstOf recovered downUnit atLog
   own Event.Malformed below = refl
   own (Event.Propose u v) below =
-      by-power u below (λ (x : B.UnitBytes). Of l b (Event.Propose u v) (proposeWith l (x .log) (x .image) v))
-      (λ on. propose-encoded l sane (unitAt b u) (well u below) on v (emptyBytes l) (out-size l)) (λ off. rw off)
-  own (Event.Deliver u k) below = by-delivery u below (Of l b (Event.Deliver u k)) k (λ q. inl (rw q)) (λ q. inr (rw q)) refl
-  own (Event.Cut u k) below = by-delivery u below (Of l b (Event.Cut u k)) k (λ q. inl (rw q)) (λ q. inr (rw q)) refl
-  own (Event.KeyOff u) below = by-power u below (λ x. Of l b (Event.KeyOff u) none) (λ on. inl (rw on)) (λ off. inr (rw off))
+      by-power u below (λ (x : B.UnitBytes). Of l c b (Event.Propose u v) (proposeWith l (x .log) (x .image) v))
+      (λ on. propose-encoded l sane (unitAt b u) (well u below) on v (emptyBytes l) (out-size l)) (λ off. (rw off, is-down u below off))
+  own (Event.Deliver u k) below =
+      by-delivery u below (Of l c b (Event.Deliver u k)) k (λ q down. inl (rw q, down)) (λ q missing. inr (rw q, missing)) refl
+  own (Event.Cut u k) below = by-delivery u below (Of l c b (Event.Cut u k)) k (λ q down. inl (rw q, down)) (λ q missing. inr (rw q, missing)) refl
+  own (Event.KeyOff u) below =
+      by-power u below (λ x. Of l c b (Event.KeyOff u) none) (λ on. inl (rw on, is-up u below on)) (λ off. inr (rw off, is-down u below off))
   own (Event.KeyOn u) below =
-      by-power u below (λ (x : B.UnitBytes). Of l b (Event.KeyOn u) (keyOnWith l (x .log) (x .image))) (λ on. rw on)
+      by-power u below (λ (x : B.UnitBytes). Of l c b (Event.KeyOn u) (keyOnWith l (x .log) (x .image))) (λ on. (rw on, is-up u below on))
       (λ off. rw off (key-on-encoded l sane (unitLog (unitAt b u)) (zeros (imageSize l)) (well u below .log) (length-replicate (imageSize l) 0)))
-
-  -- an accepted K is of an up unit
-  key-off : (e : Event) → eventUnit e < n → (u : ℕ) → e ≡ Event.KeyOff u → numberOf (answer l b e .refusal) ≡ 0
-      → (image : List ℕ) × (c .units u .image ≡ some image)
-  unfolding answer unitAnswer settle keyOff unless firstOf
-  key-off e below u q =
-      let at : u < n = rw (ap eventUnit q) at below in
-      rw q
-      (by-power u at (λ (x : B.UnitBytes). numberOf (answer l b (Event.KeyOff u) .refusal) ≡ 0 → (image : List ℕ) × (x .image ≡ some image))
-      (λ on zero. (imageBytes l (unitImage (unitAt b u)), refl)) (λ off zero. absurd (omega (arith, rw off at zero))))
 
   own-call : (e : Event) → eventUnit e < n → OwnCall l c b e
   own-call e below =
       record {
         accepted = λ zero other. made zero other (callOf l c e) refl;
-        key-off = key-off e below;
-        number = number;
         answers = answers;
-        no-call = λ q. subst (Of l b e) q (own e below);
+        number = number;
+        no-call = λ q. subst (Of l c b e) q (own e below);
       }
     where
       answers : (x : Called) → callOf l c e ≡ some x → AsUnit l b e x
-      answers x q = subst (Of l b e) q (own e below)
+      answers x q = subst (Of l c b e) q (own e below)
 
       number : (x : Called) → callOf l c e ≡ some x → (answer l b e .refusal ≡ Refusal.Full → ⊥) → x .number ≡ numberOf (answer l b e .refusal)
       number x q other = unit-number l b e x (answers x q) ∙ own-number l b e other
 
       made : numberOf (answer l b e .refusal) ≡ 0 → ((u : ℕ) → e ≡ Event.KeyOff u → ⊥) → (o : Option Called) → callOf l c e ≡ o
           → (x : Called) × ((callOf l c e ≡ some x) × (x .number ≡ 0))
-      made zero other none q = absurd (no-call-refused e _ other (subst (Of l b e) q (own e below)) zero)
+      made zero other none q = absurd (no-call-refused c e _ other (subst (Of l c b e) q (own e below)) zero)
       made zero other (some x) q = (x, (q, unit-number l b e x (answers x q) ∙ accepts l b e zero))
 
 pub calls : (l : Limits) → Sane l → (h : Header) → inRanges (h .n) (h .entry) ≡ true → (es : List Event) → Below (h .n) es

@@ -34,15 +34,15 @@ use Rattle.bench_play.specs.declared.Bench.{Bench}
 use Rattle.bench_play.specs.declared.Reply.{Reply}
 use Rattle.bench_play.specs.Claims.{Sized}
 use Rattle.bench_history.specs.History.{setupOf, Below, contentsAfter}
-use Rattle.bench_history.specs.Claims.{met}
+use Rattle.bench_history.specs.Covered.{met}
 use Rattle.bench_play.proofs.Accepting.{Accepts, delivered, cut-accepted, off-accepted, on-accepted}
 use Rattle.bench_history.proofs.Accepted.{sent-at}
 use Rattle.bench_history.proofs.Lists.{at-in}
 use Rattle.bench_play.proofs.Numbers.{of-unit}
-use Rattle.bench_play.proofs.Rows.{unit-set, sized-answer, row-line}
+use Rattle.bench_play.proofs.Rows.{unit-set, sized-answer, start-sized, reached-sized, row-line}
 use Rattle.bench_history.proofs.Lines.{below-parts}
 use Rattle.bench_play.proofs.Settled.{by-answer}
-use Rattle.bench_history.proofs.Simulation.{start-sized, reached-sized, units-high, start-shows, simulated, after-inv}
+use Rattle.bench_history.proofs.Simulation.{units-high, start-shows, simulated, after-inv}
 
 -- ---- a step
 

@@ -1,9 +1,10 @@
 -- A script that is read has a header in range, and events of its units. Assumes nothing.
 use Prim.Native.Nat.{ℕ, _<_}
 use mathlib.Core.Path.{_≡_, refl, subst}
-use mathlib.Core.Bool.{true}
+use mathlib.Core.Bool.{Bool, true, false, cond}
 use mathlib.Core.List.{List, [], _∷_}
 use borrow.Author.Tests.{le-leb}
+use lib.Dec.{leb}
 use lib.ListN.{length}
 use Rattle.tally.specs.Limits.{Limits, Sane, today, scriptSize}
 use Rattle.tally.proofs.Bounds.{sane-today}
@@ -14,7 +15,8 @@ use Rattle.bench_script.specs.declared.Header.{Header}
 use Rattle.bench_script.specs.declared.HeaderRead.{HeaderRead}
 use Rattle.bench_script.proofs.EventLines.{event-unit}
 use Rattle.bench_script.proofs.HeaderLines.{header-range}
-use Rattle.bench.specs.Listing.{playedText, listing}
+use Rattle.bench.specs.Listing.{playedText, malformedText, scriptText, listing}
+use Rattle.bench.proofs.Whole.{listing-long}
 use Rattle.bench_history.specs.Covered.{Covered}
 use Rattle.bench_history.specs.History.{Below}
 use Rattle.bench_history.specs.Listed.{Listed}
@@ -58,6 +60,15 @@ covered-script l sane s h es e =
     let i : ScriptIn (script h es) = subst ScriptIn e (script-in s) in
     covered l sane h (i .0) es (i .1)
 
+-- a script that is not read, of any length
+unread : (l : Limits) (s : List ℕ) → parse s ≡ malformed → listing l s ≡ malformedText
+unfolding listing
+unread l s e = go (leb (length s) scriptSize)
+  where
+    go : (t : Bool) → cond t (scriptText l (parse s)) malformedText ≡ malformedText
+    go true = rw e
+    go false = refl
+
 pub listed : (l : Limits) → Sane l → (s : List ℕ) → Listed l s
 unfolding listing playedText
 listed l sane s =
@@ -66,6 +77,8 @@ listed l sane s =
       lines = λ h es short e.
           let c = covered-script l sane s h es e in
           rw (le-leb (length s) scriptSize short, e, c .as-many, ← c .kept);
+      too-long = listing-long l s;
+      unread = unread l s;
     }
 
 -- of the listing that is printed

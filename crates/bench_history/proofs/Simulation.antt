@@ -6,7 +6,7 @@ use mathlib.Core.List.{List, [], _∷_, _++_, append-nil, flatMap}
 use native.Mathlib.Numerals.{add-one}
 use native.Mathlib.Omega.{arith}
 use lib.Dec.{eqb}
-use lib.ListN.{length, getD, take, set, length-append, length-replicate, List·getD-append}
+use lib.ListN.{getD, take, set, List·getD-append}
 use lib.Seq.{append-snoc, getD-at, take-suc-set}
 use borrow.Author.Tests.{eqb-true, eqb-false, ne-eqb, lt-ltb, le-leb}
 use Rattle.tally.specs.Limits.{Limits, places, senders}
@@ -16,7 +16,7 @@ use Rattle.contents.specs.Logs.{settingsOk}
 use Rattle.contents.specs.declared.Kind.{Kind}
 use Rattle.contents.specs.declared.Kind.the-variants.{Empty, First, Check, Second, Skip}
 use Rattle.contents.specs.declared.Message.{Message}
-use Rattle.consensus.specs.Step.{emptyMessage, fresh}
+use Rattle.consensus.specs.Step.{fresh}
 use Rattle.consensus.specs.declared.Answer.{Answer}
 use Rattle.consensus.proofs.Parts.{and-both}
 use Rattle.agreement.specs.Contents.{ContentsWorld, begun, unlessEmpty, step}
@@ -37,7 +37,7 @@ use Rattle.bench_play.specs.Claims.{Sized}
 use Rattle.bench_history.specs.History.{Shows, contentsAfter}
 use Rattle.bench_history.proofs.Accepted.{Went, went}
 use Rattle.bench_history.proofs.Lists.{flat-snoc}
-use Rattle.bench_play.proofs.Rows.{row, unit-set, sized-answer, sized-after}
+use Rattle.bench_play.proofs.Rows.{row, unit-set, sized-answer, fresh-length, start-sized}
 use Rattle.bench_play.proofs.Settled.{by-answer}
 
 -- ---- one line
@@ -130,11 +130,6 @@ module _ (l : Limits) (n : ℕ) (high : n ≤ senders) where
 
 -- ---- at the start
 
-fresh-length : (h : Header) (k : ℕ) → length (freshUnits h k) ≡ k
-unfolding freshUnits
-fresh-length h zero = refl
-fresh-length h (suc k) = simp (length-append, fresh-length h k) (omega arith)
-
 fresh-at : (h : Header) (k u : ℕ) → u < k → getD (freshUnits h k) u noUnit ≡ fresh (P.settingsOf h u)
 unfolding freshUnits
 fresh-at h zero u b = absurd (omega arith)
@@ -146,14 +141,6 @@ fresh-at h (suc k) u b = go (eqb u k) refl (fresh-at h k u)
     go false e before =
         let less : u < k = omega (arith, eqb-false u k e) in
         List·getD-append (freshUnits h k) _ noUnit u (omega (arith, fresh-length h k)) ∙ before less
-
-pub start-sized : (h : Header) → Sized (start h)
-unfolding start
-start-sized h = record { units = fresh-length h senders; messages = length-replicate places emptyMessage; kept = omega arith }
-
--- the bench that a script reaches
-pub reached-sized : (h : Header) (l : Limits) (es : List Event) → Sized (benchAfter l (start h) es)
-reached-sized h l es = sized-after l es (start h) (start-sized h)
 
 module _ (h : Header) (range : inRanges (h .n) (h .entry) ≡ true) where
   pub units-high : h .n ≤ senders

@@ -3,14 +3,14 @@ use mathlib.Core.Path.{_≡_}
 use mathlib.Core.Bool.{true}
 use mathlib.Core.List.{List}
 use native.Mathlib.Omega.{arith}
-use Rattle.tally.specs.Count.{passing}
+use lib.ListN.{length}
 use Rattle.tally.specs.Limits.{Limits, Sane}
 use Rattle.bench_script.specs.Script.{inRanges}
 use Rattle.bench_script.specs.declared.Event.{Event}
 use Rattle.bench_script.specs.declared.Header.{Header}
 use Rattle.bench_play.specs.Bench.{start}
 use Rattle.bench_play.specs.Play.{play, benchAfter}
-use Rattle.bench_play.specs.Claims.{hasSent}
+use Rattle.bench_play.specs.Claims.{sentNumbers}
 use Rattle.bench_history.specs.Covered.{Covered}
 use Rattle.bench_history.specs.History.{Below}
 use Rattle.bench_history.proofs.ByteHistory.{started, byte-lawful, bytes-simulated, bytes-agreed}
@@ -18,8 +18,8 @@ use Rattle.bench_history.proofs.Decisions.{decisions-same, decision-pro
 use Rattle.bench_play.proofs.Numbers.{full-only, full-met}
 use Rattle.bench_history.proofs.OwnCalls.{calls}
 use Rattle.bench_history.proofs.Rounds.{numbers-met}
-use Rattle.bench_play.proofs.Rows.{refused-stays, as-many, Numbered, numbered}
-use Rattle.bench_history.proofs.Simulation.{reached-sized, simulated}
+use Rattle.bench_play.proofs.Rows.{reached-sized, refused-stays, as-many, Numbered, numbered}
+use Rattle.bench_history.proofs.Simulation.{simulated}
 
 -- from the start, where nothing is kept
 numbered-start : (l : Limits) (h : Header) (es : List Event) → Numbered 0 (benchAfter l (start h) es) (play l (start h) es)
@@ -29,7 +29,7 @@ numbered-start l h es = numbered l (start h) es
 pub covered : (l : Limits) → Sane l → (h : Header) → inRanges (h .n) (h .entry) ≡ true → (es : List Event) → Below (h .n) es → Covered l h es
 covered l sane h range es below =
     let n = numbered-start l h es in
-    let kept : benchAfter l (start h) es .kept ≡ passing hasSent (play l (start h) es) = omega (arith, n .kept) in
+    let kept : benchAfter l (start h) es .kept ≡ length (sentNumbers (play l (start h) es)) = omega (arith, n .kept) in
     record {
       sized = reached-sized h l es;
       contents = simulated h range l es below;

@@ -56,24 +56,31 @@ AsUnit l b (Event.Cut u k) c = c ≡ answered l (delivery l b u k)
 AsUnit l b (Event.KeyOff u) c = ⊥
 AsUnit l b (Event.KeyOn u) c = let a = answered l (keyOn (unitAt b u)) in c ≡ called (a .number) (a .log) (a .image) [] (a .decision)
 
--- what a line that is no call is answered with: 8, 9 or 10; K alone may be accepted
-abbrev pub NoCall : Event → Refusal → Type 0
-NoCall Event.Malformed r = r ≡ Refusal.Line
-NoCall (Event.Propose u v) r = r ≡ Refusal.Power
-NoCall (Event.Deliver u k) r = (r ≡ Refusal.Power) ⊎ (r ≡ Refusal.Unsent)
-NoCall (Event.Cut u k) r = (r ≡ Refusal.Power) ⊎ (r ≡ Refusal.Unsent)
-NoCall (Event.KeyOff u) r = (r ≡ Refusal.None) ⊎ (r ≡ Refusal.Power)
-NoCall (Event.KeyOn u) r = r ≡ Refusal.Power
+-- where it is no call, the bench refuses it by itself, with 8, 9 or 10; only K, which is no call, may be accepted
+abbrev pub IsUp : B.ByteWorld → ℕ → Type 0
+IsUp w u = (image : List ℕ) × (w .units u .image ≡ some image)
+
+abbrev pub IsDown : B.ByteWorld → ℕ → Type 0
+IsDown w u = w .units u .image ≡ none
+
+abbrev pub NotDelivered : B.ByteWorld → ℕ → ℕ → Refusal → Type 0
+NotDelivered w u k r = ((r ≡ Refusal.Power) × IsDown w u) ⊎ ((r ≡ Refusal.Unsent) × (getElem? (w .sent) k ≡ none))
+
+abbrev pub NoCall : B.ByteWorld → Event → Refusal → Type 0
+NoCall w Event.Malformed r = r ≡ Refusal.Line
+NoCall w (Event.Propose u v) r = (r ≡ Refusal.Power) × IsDown w u
+NoCall w (Event.Deliver u k) r = NotDelivered w u k r
+NoCall w (Event.Cut u k) r = NotDelivered w u k r
+NoCall w (Event.KeyOff u) r = ((r ≡ Refusal.None) × IsUp w u) ⊎ ((r ≡ Refusal.Power) × IsDown w u)
+NoCall w (Event.KeyOn u) r = (r ≡ Refusal.Power) × IsUp w u
 
 -- of the line e in the world w, where the bench is b
 pub record OwnCall (l : Limits) (w : B.ByteWorld) (b : Bench) (e : Event) : Type 0 where
-  -- an accepted line but K is an accepted call, and an accepted K is of an up unit
+  -- an accepted line but K is an accepted call: a D or a W is of a message sent
   pub accepted : numberOf (answer l b e .refusal) ≡ 0 → ((u : ℕ) → e ≡ Event.KeyOff u → ⊥)
       → (c : Called) × ((callOf l w e ≡ some c) × (c .number ≡ 0))
-  pub key-off : (u : ℕ) → e ≡ Event.KeyOff u → numberOf (answer l b e .refusal) ≡ 0 → (image : List ℕ) × (w .units u .image ≡ some image)
-  -- a call's number is the line's, 5 and 6 too, unless the line is refused with 11
-  pub number : (c : Called) → callOf l w e ≡ some c → (answer l b e .refusal ≡ Refusal.Full → ⊥) → c .number ≡ numberOf (answer l b e .refusal)
-  -- and it answers all that the bench's unit does
+  -- the call answers all that the bench's unit does
   pub answers : (c : Called) → callOf l w e ≡ some c → AsUnit l b e c
-  -- where no call is made, the bench itself refuses, K apart
-  pub no-call : callOf l w e ≡ none → NoCall e (answer l b e .refusal)
+  -- its number is the line's, 5 and 6 too, unless the line is refused with 11
+  pub number : (c : Called) → callOf l w e ≡ some c → (answer l b e .refusal ≡ Refusal.Full → ⊥) → c .number ≡ numberOf (answer l b e .refusal)
+  pub no-call : callOf l w e ≡ none → NoCall w e (answer l b e .refusal)

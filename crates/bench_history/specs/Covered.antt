@@ -1,9 +1,8 @@
 -- Everything that is claimed of a played script, in one record. Assumes nothing.
 use Prim.Native.Nat.{ℕ, _≤_, _<_}
 use mathlib.Core.Path.{_≡_}
-use mathlib.Core.List.{List, _∷_, _++_, List·Memᴰ}
+use mathlib.Core.List.{List, [], _∷_, _++_, map, List·Memᴰ}
 use lib.ListN.{length}
-use Rattle.tally.specs.Count.{passing}
 use Rattle.tally.specs.Limits.{Limits, places}
 use Rattle.tally.specs.Refusal.{numberOf}
 use Rattle.tally.specs.declared.Estimate.the-variants.{Mileage}
@@ -15,11 +14,10 @@ use Rattle.agreement.specs.Worlds.{Agreed}
 use Rattle.bench_script.specs.declared.Event.{Event}
 use Rattle.bench_script.specs.declared.Header.{Header}
 use Rattle.bench_play.specs.Bench.{start}
-use Rattle.bench_play.specs.Claims.{Sized, Unchanged, WouldSend, NoPlace, hasSent, rising, sentNumbers}
+use Rattle.bench_play.specs.Claims.{Sized, Unchanged, WouldSend, NoPlace, rising, sentNumbers}
 use Rattle.bench_play.specs.Play.{Played, answer, play, benchAfter}
 use Rattle.bench_play.specs.declared.Bench.{Bench}
 use Rattle.bench_history.specs.Calls.{OwnCall}
-use Rattle.bench_history.specs.Claims.{ProposedIn, met}
 use Rattle.bench_history.specs.History.{setupOf, byteHistory, Shows, contentsAfter, startLog, startImage, startBytes, bytesAfter}
 
 abbrev pub after : Limits → Header → List Event → Bench
@@ -32,6 +30,20 @@ rows l h es = play l (start h) es
 abbrev pub EachLine : List Event → (List Event → Event → Type 0) → Type 0
 EachLine es P = (before later : List Event) (e : Event) → es ≡ before ++ (e ∷ later) → P before e
 
+-- an accepted row in which a unit proposes v
+pub record ProposedIn (v : ℕ) (rows : List Played) : Type 0 where
+  pub row : Played
+  pub there : List·Memᴰ row rows
+  pub by : ℕ
+  pub event : row .event ≡ Event.Propose by v
+  pub accepted : numberOf (row .reply .refusal) ≡ 0
+
+-- the numbers that a script meets: 1 to 4 and 7 are not among them
+abbrev pub met : List ℕ
+met =
+    map numberOf
+    (Refusal.None ∷ Refusal.Addressee ∷ Refusal.Mileage ∷ Refusal.Line ∷ Refusal.Power ∷ Refusal.Unsent ∷ Refusal.Full ∷ [])
+
 -- of the header h and the events es
 pub record Covered (l : Limits) (h : Header) (es : List Event) : Type 0 where
   pub sized : Sized (after l h es)
@@ -40,9 +52,9 @@ pub record Covered (l : Limits) (h : Header) (es : List Event) : Type 0 where
   -- and one over bytes, from units that are started, whose bytes are those of these contents
   pub started : (u : ℕ) → u < h .n → B.startOf l (setupOf h) (startLog l) (startImage l) u .number ≡ 0
   pub bytes : Encodes l (h .n) (bytesAfter l h es) (contentsAfter l h es)
-  -- each accepted line is an accepted call on that unit's own log and image, and each message delivered was sent
+  -- each line is the call on its unit's own log and image, of which the bench makes what `settle` says, and each message delivered was sent
   pub calls : EachLine es (λ before e. OwnCall l (bytesAfter l h before) (after l h before) e)
-  -- only demand 3's hypothesis: no event of this history is a `call`, with buffers of the host's choice
+  -- demand 3 asks that each event `call`, of buffers of the host's choice, be refused; this history has none
   pub lawful : B.Lawful l (h .n) (startBytes l h) (byteHistory l (start h) es)
   -- so that demand 3 holds of it
   pub agreed : Agreed (setupOf h) (view l) (B.step l (h .n)) (startBytes l h) (byteHistory l (start h) es)
@@ -63,7 +75,7 @@ pub record Covered (l : Limits) (h : Header) (es : List Event) : Type 0 where
       (numberOf (answer l (after l h before) e .refusal) ≡ 0 → ⊥) → Unchanged (after l h before) (answer l (after l h before) e))
   -- a row for each line; as many messages kept as rows that sent one, and their numbers are 0, 1, 2 and so on
   pub as-many : length (rows l h es) ≡ length es
-  pub kept : after l h es .kept ≡ passing hasSent (rows l h es)
+  pub kept : after l h es .kept ≡ length (sentNumbers (rows l h es))
   pub numbers : sentNumbers (rows l h es) ≡ rising 0 (after l h es .kept)
   -- where rounds go up to 128 or above, 1 to 4 and 7 are never met
   pub numbers-met : places ≤ l .lastRound → (p : Played) → List·Memᴰ p (rows l h es) → List·Memᴰ (numberOf (p .reply .refusal)) met

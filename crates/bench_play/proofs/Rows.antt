@@ -1,5 +1,5 @@
 -- The rows of a played script, one by one: where each stands, how many send, and with which numbers. Assumes nothing.
-use Prim.Native.Nat.{ℕ, suc, _+_, _≤_, _<_}
+use Prim.Native.Nat.{ℕ, zero, suc, _+_, _≤_, _<_}
 use mathlib.Core.Path.{_≡_, refl, ap, _∙_}
 use mathlib.Core.Bool.{Bool, true, false, cond}
 use mathlib.Core.List.{List, [], _∷_, _++_, flatMap, List·Memᴰ, List·Memᴰ·cases-cons, List·Memᴰ·not-nil}
@@ -7,21 +7,22 @@ use mathlib.Core.Logic.{_⊎_, inl, inr}
 use native.Mathlib.Numerals.{add-one}
 use native.Mathlib.Omega.{arith}
 use lib.Dec.{eqb}
-use lib.ListN.{length, getD, set, length-set}
+use lib.ListN.{length, getD, set, length-append, length-replicate, length-set}
 use lib.Seq.{getD-set-same, getD-set-other}
 use borrow.Author.Tests.{eqb-true, eqb-false}
-use Rattle.tally.specs.Count.{passing}
 use Rattle.tally.specs.Limits.{Limits, places, senders}
 use Rattle.tally.specs.Refusal.{numberOf}
+use Rattle.consensus.specs.Step.{emptyMessage}
 use Rattle.consensus.specs.declared.Unit as U
 use Rattle.bench_script.specs.Script.{eventUnit}
 use Rattle.bench_script.specs.declared.Event.{Event}
-use Rattle.bench_play.specs.Bench.{noUnit, unitAt, withUnit, withMessage}
+use Rattle.bench_script.specs.declared.Header.{Header}
+use Rattle.bench_play.specs.Bench.{freshUnits, start, noUnit, unitAt, withUnit, withMessage}
 use Rattle.bench_play.specs.Play.{Played, unitAnswer, answer, play, benchAfter}
 use Rattle.bench_play.specs.declared.Bench.{Bench}
 use Rattle.bench_play.specs.declared.Reply.{Reply}
 use Rattle.bench_play.specs.declared.Sent.{Sent}
-use Rattle.bench_play.specs.Claims.{Sized, Unchanged, hasSent, rising, sentNumbers}
+use Rattle.bench_play.specs.Claims.{Sized, Unchanged, rising, sentNumbers}
 use Rattle.bench_play.proofs.Settled.{by-answer}
 
 -- a line and what it was answered
@@ -65,6 +66,20 @@ pub sized-after : (l : Limits) (es : List Event) (b : Bench) → Sized b → Siz
 unfolding benchAfter
 sized-after l [] b sized = sized
 sized-after l (e ∷ es) b sized = sized-after l es (answer l b e .bench) (sized-answer l b sized e)
+
+-- from the start on
+pub fresh-length : (h : Header) (k : ℕ) → length (freshUnits h k) ≡ k
+unfolding freshUnits
+fresh-length h zero = refl
+fresh-length h (suc k) = simp (length-append, fresh-length h k) (omega arith)
+
+pub start-sized : (h : Header) → Sized (start h)
+unfolding start
+start-sized h = record { units = fresh-length h senders; messages = length-replicate places emptyMessage; kept = omega arith }
+
+-- the bench that a script reaches
+pub reached-sized : (h : Header) (l : Limits) (es : List Event) → Sized (benchAfter l (start h) es)
+reached-sized h l es = sized-after l es (start h) (start-sized h)
 
 -- ---- a refused line
 
@@ -125,8 +140,8 @@ next l b e =
 
 -- each row that sends takes the next place, of which it shows the number
 pub record Numbered (k : ℕ) (b : Bench) (rows : List Played) : Type 0 where
-  pub kept : b .kept ≡ k + passing hasSent rows
-  pub numbers : sentNumbers rows ≡ rising k (passing hasSent rows)
+  pub kept : b .kept ≡ k + length (sentNumbers rows)
+  pub numbers : sentNumbers rows ≡ rising k (length (sentNumbers rows))
 
 pub numbered : (l : Limits) (b : Bench) (es : List Event) → Numbered (b .kept) (benchAfter l b es) (play l b es)
 unfolding play benchAfter sentNumbers flatMap

@@ -1,7 +1,6 @@
 -- What is claimed of the bench's answers. Assumes nothing.
 use Prim.Native.Nat.{ℕ, zero, suc, _≤_}
 use mathlib.Core.Path.{_≡_}
-use mathlib.Core.Bool.{Bool, true, false}
 use mathlib.Core.List.{List, [], _∷_, flatMap}
 use lib.ListN.{length}
 use Rattle.tally.specs.Limits.{Limits, senders, places}
@@ -42,20 +41,12 @@ pub record NoPlace (l : Limits) (b : Bench) (e : Event) : Type 0 where
   pub would : WouldSend l b e
   pub sending : Sending e
 
--- a row that sent a message
-abbrev pub isSent : Sent → Bool
-isSent Sent.Nothing = false
-isSent (Sent.At k) = true
-
-abbrev pub hasSent : Played → Bool
-hasSent p = isSent (p .reply .sent)
-
 -- j numbers, from k on
 abbrev pub rising : ℕ → ℕ → List ℕ
 rising k zero = []
 rising k (suc j) = k ∷ rising (suc k) j
 
--- the message numbers shown, in order
+-- the message numbers shown, in order: one for each row that sent a message
 abbrev pub sentOf : Sent → List ℕ
 sentOf Sent.Nothing = []
 sentOf (Sent.At k) = k ∷ []

@@ -14,8 +14,8 @@ pub fn play(from: i32, to: i32) -> u32
     let mut script = [0u8; READ_SIZE];
     let size = io::read_full(from, &mut script);
     let mut out = bench::page();
-    let listed = bench::print(&script[..size], &mut out);
-    let length = listed.length;
+    let written = bench::print(&script[..size], &mut out);
+    let length = written.length;
     io::write_all(to, &out[..length]);
-    listed.number
+    written.number
 }

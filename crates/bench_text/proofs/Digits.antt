@@ -9,7 +9,7 @@ use lib.Dec.{ltb}
 use borrow.Author.Tests.{lt-ltb, le-ltb}
 use lib.ListN.{length, length-append}
 use Rattle.bench_script.specs.Numbers.{digitZero}
-use Rattle.bench_text.specs.Text.{digits, decimal}
+use Rattle.bench_text.specs.Text.{digits}
 
 -- a digit alone, and a last digit
 pub few : (k n : ℕ) → 0 < k → n < 10 → digits k n ≡ (digitZero + n) ∷ []

@@ -5,9 +5,9 @@ use native.Mathlib.Omega.{arith}
 use borrow.Author.Needs.{needs}
 use lib.ListN.{length}
 use Rattle.tally.specs.Limits.{today, places}
-use Rattle.bench_play.proofs.Rows.{answer-kept}
+use Rattle.bench_play.proofs.Rows.{start-sized, answer-kept}
 use Rattle.bench_play.specs.Bench.{start}
-use Rattle.bench.proofs.Rest.{Left, none-kept, left-start, left-room, left-step, left-end, end-room}
+use Rattle.bench.proofs.Rest.{Left, left-start, left-room, left-step, left-end, end-room}
 use Rattle.bench.proofs.turns.put_events.Statement.{statement}
 use Rattle.bench.proofs.turns.put_events.Tie as tie
 
@@ -29,7 +29,7 @@ loop-holds : tie.Need-loop-holds Inv-loop μ-loop
 loop-holds c = (
   c .before .before .before .pre .0,
   omega arith,
-  rw (c .start .ensures) (none-kept (c .before .before .before .args .h)),
+  rw (c .start .ensures) (start-sized (c .before .before .before .args .h) .kept),
   refl,
   rw (c .start .ensures) (left-start today _ _ _ _ _ _),
 )
