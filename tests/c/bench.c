@@ -252,10 +252,12 @@ static void compare_random(void (*make)(struct script *), unsigned long times, c
     }
 }
 
+/* What a bench can answer. */
+static const unsigned numbers[] = {0, 5, 6, 8, 9, 10, 11};
+
 /* Whether the random scripts by themselves reached everything: what came before them is not counted. */
 static bool all_were_reached(void)
 {
-    static const unsigned numbers[] = {0, 5, 6, 8, 9, 10, 11};
     bool all = counts.scripts > 0 && counts.decided > 0 && counts.later > 0 && counts.full > 0;
 
     for (size_t i = 0; i < COUNT(numbers); i++)
@@ -276,8 +278,6 @@ static void forget_counts(void)
 
 static void print_counts(void)
 {
-    static const unsigned numbers[] = {0, 5, 6, 8, 9, 10, 11};
-
     printf("bench: %lu scripts agree, %lu decided, %lu in a later round, %lu filled all places; given", counts.scripts, counts.decided,
            counts.later, counts.full);
     for (size_t i = 0; i < COUNT(numbers); i++)

@@ -39,7 +39,7 @@ start h = record { units = freshUnits h senders; messages = replicate places emp
 
 -- ---- units and messages by number
 
--- what there would be past the last unit; no event has such a number
+-- the unit of a malformed line, and what there would be past the last unit, of which there is no event
 abbrev pub noUnit : U.Unit
 noUnit =
     record {
@@ -88,7 +88,9 @@ isEmpty Skip = false
 
 -- 11 is last, and refuses the whole event
 unfoldable pub send : Bench → ℕ → Answer → Reply
-send b u a = cond (noPlaceLeft b u) (refused b Refusal.Full) (accepted (withMessage (withUnit b u (a .unit)) (a .message)) (Sent.At (b .kept)) (a .decision))
+send b u a =
+    cond (noPlaceLeft b u) (refused b Refusal.Full)
+    (accepted (withMessage (withUnit b u (a .unit)) (a .message)) (Sent.At (b .kept)) (a .decision))
 
 -- what unit u's answer makes of the bench
 unfoldable pub settle : Bench → ℕ → Answer → Reply

@@ -98,7 +98,7 @@ impl Bench {
     {
         Bench {
             units: fresh_units(h),
-            messages: [step::empty_message(); limits::PLACES],
+            messages: [step::EMPTY; limits::PLACES],
             kept: 0,
         }
     }

@@ -83,7 +83,7 @@ impl Unit {
         Answer {
             refusal,
             unit: self,
-            message: step::empty_message(),
+            message: step::EMPTY,
             decision: Estimate::Blank,
         }
     }

@@ -20,27 +20,23 @@ ghost use lib.Dec.{leb};
 ghost use Rattle.tally.specs.Limits.{today, senders};
 ghost use Rattle.tally.specs.Quorum.{quorumOf};
 ghost use Rattle.tally.specs.Tally.{mark};
-ghost use Rattle.consensus.specs.Step.{emptyMessage, gives, quiet, says, sends, withCurrent, withChecks, withSeconds, logWrite, clean, atRound};
+ghost use Rattle.consensus.specs.Step.{gives, quiet, says, sends, withCurrent, withChecks, withSeconds, logWrite, clean, atRound};
 ghost use Rattle.consensus.specs.Step.{fresh, recovered, orIfBlank, sendFirst, proposed, voteKind, voteProposal, takeFirst, onFirst};
 ghost use Rattle.consensus.specs.Step.{takeSecond, countCheck, onCheck, decided, nextProposal, close, countSecond};
 ghost use Rattle.consensus.specs.Step.{onSecond, onKind, skip, caughtUp, received};
 
 // An empty message is what a step that sends nothing gives.
-pub fn empty_message() -> Message
-    ensures { λ r. ⌜ r ≡ emptyMessage ⌝ }
-{
-    Message {
-        kind: Kind::Empty,
-        engine: Engine::B,
-        n: 0,
-        sender: 0,
-        receiver: 0,
-        entry: 0,
-        round: 0,
-        estimate: Estimate::Blank,
-        proposal: Estimate::Blank,
-    }
-}
+pub const EMPTY: Message = Message {
+    kind: Kind::Empty,
+    engine: Engine::B,
+    n: 0,
+    sender: 0,
+    receiver: 0,
+    entry: 0,
+    round: 0,
+    estimate: Estimate::Blank,
+    proposal: Estimate::Blank,
+};
 
 // The state at the beginning of a round.
 fn clean(round: Round, proposal: Estimate) -> State
@@ -135,7 +131,7 @@ impl Unit {
     pub(crate) fn quiet(self) -> Answer
         ensures { λ r. ⌜ r ≡ quiet self ⌝ }
     {
-        self.gives(empty_message(), Estimate::Blank)
+        self.gives(EMPTY, Estimate::Blank)
     }
 
     // A message of this unit, with its round.
@@ -330,7 +326,7 @@ impl Unit {
         let current = self.current;
         let own = current.proposal;
         self.at_round(current.round + 1, next_proposal(engine, settings.n, t, own))
-            .gives(empty_message(), decided(t.common()))
+            .gives(EMPTY, decided(t.common()))
     }
 
     fn count_second(self, t: Tally) -> Answer

@@ -14,11 +14,9 @@ close-spec =
     (λ c κs. search needs)
     (λ c κs. search needs)
     (λ c κs. search needs)
-    (λ c κs. search needs)
     (λ c. simp (
-      ← (c .before .before .before .before .before .next-proposal .ensures),
-      ← (c .before .before .before .before .at-round .ensures),
-      ← (c .before .before .before .empty-message .ensures),
+      ← (c .before .before .before .before .next-proposal .ensures),
+      ← (c .before .before .before .at-round .ensures),
       ← (c .before .before .common .ensures),
       ← (c .before .decided .ensures),
     )

@@ -3,4 +3,4 @@ use Rattle.consensus.proofs.Unit.quiet.Statement.{statement}
 use Rattle.consensus.proofs.Unit.quiet.Tie as tie
 
 pub quiet-spec : {M : Type 1} → statement M
-quiet-spec = tie.close (tie.spec (λ c κs. search needs) (λ c κs. search needs) (λ c. simp (← (c .before .empty-message .ensures)) (c .gives .ensures)))
+quiet-spec = tie.close (tie.spec (λ c κs. search needs) (λ c. c .gives .ensures))
