@@ -100,7 +100,8 @@ module _ (l : Limits) (sane : Sane l) (n : ℕ) (b : Bench) (sized : Sized b) (r
 
     -- a delivery or a cut of it: to a down unit, of no message sent, or the call
     by-delivery : (P : Option Called → Type 0) (k : ℕ) → (delivery l b u k ≡ refuses (unitAt b u) Refusal.Power → IsDown c u → P none)
-        → (delivery l b u k ≡ refuses (unitAt b u) Refusal.Unsent → getElem? (c .sent) k ≡ none → P none) → P (some (answered l (delivery l b u k)))
+        → (delivery l b u k ≡ refuses (unitAt b u) Refusal.Unsent → IsUp c u → getElem? (c .sent) k ≡ none → P none)
+        → P (some (answered l (delivery l b u k)))
         → P (deliverWith l (c .units u .log) (c .units u .image) (getElem? (c .sent) k))
     unfolding delivery deliveryRows unless firstOf
     by-delivery P k down unsent sent =
@@ -112,7 +113,7 @@ module _ (l : Limits) (sane : Sane l) (n : ℕ) (b : Bench) (sized : Sized b) (r
         go on true e =
             let past = past-taken (b .messages) (b .kept) k (leb-true _ _ e) in
             let missing : getElem? (c .sent) k ≡ none = rw (enc .sent, sent-at l (w .sent) k, shows .sent, past) in
-            rw missing (unsent (rw (on, e)) missing)
+            rw missing (unsent (rw (on, e)) (is-up on) missing)
         go on false e =
             let there = bench-sent l n b sized rows w shows k (leb-false _ _ e) in
             let is-on : w .units u .power ≡ Up = rw same on in
@@ -130,8 +131,9 @@ module _ (l : Limits) (sane : Sane l) (n : ℕ) (b : Bench) (sized : Sized b) (r
       by-power u below (λ (x : B.UnitBytes). Of l c b (Event.Propose u v) (proposeWith l (x .log) (x .image) v))
       (λ on. propose-encoded l sane (unitAt b u) (well u below) on v (emptyBytes l) (out-size l)) (λ off. (rw off, is-down u below off))
   own (Event.Deliver u k) below =
-      by-delivery u below (Of l c b (Event.Deliver u k)) k (λ q down. inl (rw q, down)) (λ q missing. inr (rw q, missing)) refl
-  own (Event.Cut u k) below = by-delivery u below (Of l c b (Event.Cut u k)) k (λ q down. inl (rw q, down)) (λ q missing. inr (rw q, missing)) refl
+      by-delivery u below (Of l c b (Event.Deliver u k)) k (λ q down. inl (rw q, down)) (λ q up missing. inr (rw q, up, missing)) refl
+  own (Event.Cut u k) below =
+      by-delivery u below (Of l c b (Event.Cut u k)) k (λ q down. inl (rw q, down)) (λ q up missing. inr (rw q, up, missing)) refl
   own (Event.KeyOff u) below =
       by-power u below (λ x. Of l c b (Event.KeyOff u) none) (λ on. inl (rw on, is-up u below on)) (λ off. inr (rw off, is-down u below off))
   own (Event.KeyOn u) below =

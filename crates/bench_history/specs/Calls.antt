@@ -56,16 +56,18 @@ AsUnit l b (Event.Cut u k) c = c ≡ answered l (delivery l b u k)
 AsUnit l b (Event.KeyOff u) c = ⊥
 AsUnit l b (Event.KeyOn u) c = let a = answered l (keyOn (unitAt b u)) in c ≡ called (a .number) (a .log) (a .image) [] (a .decision)
 
--- where it is no call, the bench refuses it by itself, with 8, 9 or 10; only K, which is no call, may be accepted
+-- an up unit has an image
 abbrev pub IsUp : B.ByteWorld → ℕ → Type 0
 IsUp w u = (image : List ℕ) × (w .units u .image ≡ some image)
 
 abbrev pub IsDown : B.ByteWorld → ℕ → Type 0
 IsDown w u = w .units u .image ≡ none
 
+-- 9 before 10
 abbrev pub NotDelivered : B.ByteWorld → ℕ → ℕ → Refusal → Type 0
-NotDelivered w u k r = ((r ≡ Refusal.Power) × IsDown w u) ⊎ ((r ≡ Refusal.Unsent) × (getElem? (w .sent) k ≡ none))
+NotDelivered w u k r = ((r ≡ Refusal.Power) × IsDown w u) ⊎ ((r ≡ Refusal.Unsent) × IsUp w u × (getElem? (w .sent) k ≡ none))
 
+-- where a line is no call, the bench refuses it by itself, with 8, 9 or 10; only K, which is no call, may be accepted
 abbrev pub NoCall : B.ByteWorld → Event → Refusal → Type 0
 NoCall w Event.Malformed r = r ≡ Refusal.Line
 NoCall w (Event.Propose u v) r = (r ≡ Refusal.Power) × IsDown w u
@@ -83,4 +85,5 @@ pub record OwnCall (l : Limits) (w : B.ByteWorld) (b : Bench) (e : Event) : Type
   pub answers : (c : Called) → callOf l w e ≡ some c → AsUnit l b e c
   -- its number is the line's, 5 and 6 too, unless the line is refused with 11
   pub number : (c : Called) → callOf l w e ≡ some c → (answer l b e .refusal ≡ Refusal.Full → ⊥) → c .number ≡ numberOf (answer l b e .refusal)
+  -- where there is no call, the bench's own refusal has its reason
   pub no-call : callOf l w e ≡ none → NoCall w e (answer l b e .refusal)
