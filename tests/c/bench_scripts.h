@@ -8,6 +8,7 @@
 #include <stdarg.h>
 
 #include "bench_reference.h"
+#include "random.h"
 
 #define COUNT(array) (sizeof(array) / sizeof(array)[0])
 
@@ -18,17 +19,6 @@ struct script {
     size_t size;
     uint8_t bytes[SCRIPT_ROOM];
 };
-
-/* Random numbers: xorshift with a fixed seed. */
-static uint32_t below(uint32_t bound)
-{
-    static uint64_t state = UINT64_C(0x2545f4914f6cdd1d);
-
-    state ^= state << 13;
-    state ^= state >> 7;
-    state ^= state << 17;
-    return (uint32_t)(state >> 32) % bound;
-}
 
 static bool in_thousand(uint32_t times)
 {

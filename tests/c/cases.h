@@ -8,6 +8,7 @@
 #include <stdint.h>
 
 #include "mileage.h"
+#include "random.h"
 
 #define BLANK MILEAGE_BLANK
 #define SPLIT MILEAGE_SPLIT
@@ -34,17 +35,6 @@ struct values {
 #define MILEAGES 0, 9999999, 65535, 65536
 #define NO_MILEAGE 10000000, 2147483648, 4294967293
 #define NOT_412077 412076, 412078, 412077 + 65536, 412077 + 16777216, MILEAGES, NO_MILEAGE, SPLIT, BLANK
-
-/* Random numbers: xorshift with a fixed seed, so every run makes the same cases. */
-static uint32_t below(uint32_t bound)
-{
-    static uint64_t state = UINT64_C(0x9e3779b97f4a7c15);
-
-    state ^= state << 13;
-    state ^= state >> 7;
-    state ^= state << 17;
-    return (uint32_t)(state >> 32) % bound;
-}
 
 static uint32_t one_of(const uint32_t *values, size_t count)
 {

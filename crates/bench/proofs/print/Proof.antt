@@ -15,7 +15,10 @@ print-spec =
     tie.close
     (tie.spec
     (λ c κs. search needs)
-    (λ c. rw (c .number .ensures, lt-ltb _ maxListing (c .before .if1 .taken)))
+    (λ c.
+    let t = c .before in
+    let x = t .before .before .before .args in
+    rw (c .number .ensures, lt-ltb (length (x .out .now)) maxListing (omega (arith, t .if1 .taken))))
     (λ c κs. search needs)
     (λ c κs. search needs)
     (λ c. search needs)
