@@ -1,19 +1,25 @@
 /*
  * The mileage agreement core as C firmware calls it: the unit of one entry (starting it, key-on, proposing, delivering),
- * and reading and writing logs and messages.
+ * and reading and writing logs and messages. Link libmileage.a; it keeps nothing of its own between calls, allocates
+ * nothing, and uses from outside at most memcpy, memset and memmove.
  *
- * A slice is passed as a pointer and then its length. The length counts elements: bytes of a log, an image or a message,
- * numbers of a fields buffer. Each pointer is valid for its length, `decision` for one number; the buffers of one call and
- * the decision must not overlap.
+ * A buffer is passed as a pointer and then its length. The length counts elements: bytes of a log, an image or a message,
+ * numbers of a fields buffer. Each pointer must be valid for its length and not be null, `decision` for one number. The
+ * buffers of one call, `decision` among them, must not overlap. Buffers passed as const are only read.
  *
  * Every call answers with a number: MILEAGE_ACCEPTED, or why it was turned down. Lengths are looked at first; of several
- * reasons the lowest number is given. A call keeps nothing of its own: all that a unit is lies in its log and its image.
+ * reasons the lowest number is given. After a refusal log and image are as they were, and an output buffer of 18 bytes is
+ * all zeros; one of another length is as it was.
  */
 #ifndef MILEAGE_H
 #define MILEAGE_H
 
 #include <stddef.h>
 #include <stdint.h>
+
+#ifdef __cplusplus
+extern "C" {
+#endif
 
 /* Lengths, in elements. */
 #define MILEAGE_LOG_LENGTH 20
@@ -52,12 +58,14 @@
 
 /*
  * A unit of one entry has a log, kept in permanent memory, and an image, kept in working memory and lost at key-off.
- * Firmware lends both to every call and need not understand either. It does this:
+ * All that the unit is lies in these two. Firmware lends both to every call and need not understand either. It does this:
  *
  * - Once for each entry, before any other call: mileage_start, with the same engine, n and entry in all units and a unit
  *   number of its own in each; the log goes to permanent memory. Never again for that entry, or the unit forgets what it
  *   has promised the others.
  * - After each key-on, before any other call: mileage_key_on, with the log from permanent memory.
+ * - Log and image are lent in pairs: the log is the last one written to permanent memory, the image is the one that the
+ *   last call on this entry left, and never a copy from before a key-off.
  * - To propose a mileage, or to try again after some time without a decision: mileage_propose. The log stays as it is.
  * - For each message from the bus, its own messages to everyone too: mileage_deliver. If the log has changed
  *   (its 20 bytes differ from those before the call), the whole log goes to permanent memory, and only then does the
@@ -67,9 +75,6 @@
  *   its kind is 'K', to the one unit that its byte 4, counted from 0, names. A message may be lost, late or delivered
  *   more than once, but never altered.
  * - After a refusal nothing needs to be written or sent, and the unit goes on from the same log and image.
- *
- * After a refusal log and image are as they were, and an output buffer of 18 bytes is all zeros; one of another length
- * is as it was. Buffers passed as const are only read.
  */
 
 /*
@@ -117,5 +122,9 @@ uint32_t mileage_write_log(const uint32_t *fields, size_t fields_len, uint8_t *l
  */
 uint32_t mileage_read_message(const uint8_t *message, size_t message_len, uint32_t *fields, size_t fields_len);
 uint32_t mileage_write_message(const uint32_t *fields, size_t fields_len, uint8_t *message, size_t message_len);
+
+#ifdef __cplusplus
+}
+#endif
 
 #endif

@@ -1,5 +1,5 @@
 /*
- * What entries.c and calls.c share: values in and out of each range, random numbers, lengths right and wrong.
+ * What fields.c and calls.c share: values in and out of each range, random numbers, lengths right and wrong.
  */
 #ifndef CASES_H
 #define CASES_H
@@ -8,7 +8,6 @@
 #include <stdint.h>
 
 #include "mileage.h"
-#include "random.h"
 
 #define BLANK MILEAGE_BLANK
 #define SPLIT MILEAGE_SPLIT
@@ -36,20 +35,25 @@ struct values {
 #define NO_MILEAGE 10000000, 2147483648, 4294967293
 #define NOT_412077 412076, 412078, 412077 + 65536, 412077 + 16777216, MILEAGES, NO_MILEAGE, SPLIT, BLANK
 
-static uint32_t one_of(const uint32_t *values, size_t count)
+/* Random numbers: xorshift with a fixed seed, so every run makes the same cases. */
+static inline uint32_t below(uint32_t bound)
+{
+    static uint64_t state = UINT64_C(0x9e3779b97f4a7c15);
+
+    state ^= state << 13;
+    state ^= state >> 7;
+    state ^= state << 17;
+    return (uint32_t)(state >> 32) % bound;
+}
+
+static inline uint32_t one_of(const uint32_t *values, size_t count)
 {
     return values[below((uint32_t)count)];
 }
 
-/* A number from low to high, often one of the two ends. */
-static uint32_t between(uint32_t low, uint32_t high)
-{
-    return below(4) ? low + below(high - low + 1) : one_of(VALUES(low, high));
-}
-
 /* The right length, then wrong ones; the last two are right only if cut to one or two bytes. */
-enum { GUARD = 8, LENGTHS = 6, LONGEST = 65536 };
-static size_t length(size_t right, unsigned choice)
+enum { LENGTHS = 6, LONGEST = 65536 };
+static inline size_t length(size_t right, unsigned choice)
 {
     return (const size_t[LENGTHS]){right, 0, right - 1, right + 1, right + 256, right + LONGEST}[choice];
 }

@@ -2,7 +2,7 @@
 use Prim.Native.Nat.{ℕ, zero, suc, _%_, _<_}
 use mathlib.Core.Path.{_≡_, refl, sym, ap, subst, _∙_}
 use mathlib.Core.Bool.{Bool, true, false, cond, _||_}
-use mathlib.Core.List.{List, [], _∷_, _++_, map, List·Memᴰ}
+use mathlib.Core.List.{List, [], _∷_, _++_, map, map-append, List·Memᴰ}
 use mathlib.Core.Logic.{_⊎_, inl, inr}
 use mathlib.Core.Option.{Option, none, some}
 use lib.Dec.{eqb}
@@ -85,16 +85,12 @@ unfolding bytesOf
 letter-first l m letter = rw letter
 
 module _ (l : Limits) (n : ℕ) (b : ByteWorld) (w : ContentsWorld) (enc : Encodes l n b w) where
-  map-snoc : (ms : List Message) (m : Message) → map (sentBytes l) (ms ++ (m ∷ [])) ≡ map (sentBytes l) ms ++ (sentBytes l m ∷ [])
-  map-snoc [] m = refl
-  map-snoc (x ∷ ms) m = ap (_∷_ (sentBytes l x)) (map-snoc ms m)
-
   encodes-sent : (m : Message) → eqb (kindLetter (m .kind) % 256) 0 ≡ false → Encodes l n (keep b (unlessEmpty (sentBytes l m))) (keep w (some m))
   encodes-sent m letter =
       rw (letter-first l m letter)
       (record {
         units = enc .units;
-        sent = ap (λ ms. ms ++ (sentBytes l m ∷ [])) (enc .sent) ∙ sym (map-snoc (w .sent) m);
+        sent = ap (λ ms. ms ++ (sentBytes l m ∷ [])) (enc .sent) ∙ sym (map-append (sentBytes l) (w .sent) (m ∷ []));
         proposed = enc .proposed;
         decided = enc .decided;
       })

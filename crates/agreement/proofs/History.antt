@@ -112,8 +112,7 @@ run-append step w (x ∷ xs) ys = run-append step (step w x) xs ys
 
 pub run-snoc : {W E : Type 0} (step : W → E → W) (w : W) (xs : List E) (e : E) → run step w (xs ++ (e ∷ [])) ≡ step (run step w xs) e
 unfolding run
-run-snoc step w [] e = refl
-run-snoc step w (x ∷ xs) e = run-snoc step (step w x) xs e
+run-snoc step w xs e = run-append step w xs (e ∷ [])
 
 -- ---- the events
 

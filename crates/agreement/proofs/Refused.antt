@@ -9,7 +9,7 @@ use lib.Dec.{eqb}
 use lib.ListN.{length}
 use borrow.Author.Tests.{ne-eqb}
 use Rattle.tally.specs.Limits.{Limits, Sane, messageSize}
-use Rattle.tally.proofs.Count.{Each}
+use Rattle.tally.proofs.Count.{Each, each-map}
 use Rattle.codec.specs.Formats.{wrote, Format, fromNumbers, readBytes, toBytes}
 use Rattle.codec.specs.Images.{imageBytes}
 use Rattle.codec.specs.Logs.{logFormat}
@@ -121,8 +121,6 @@ module _ (l : Limits) (sane : Sane l) (n : ℕ) (w : ContentsWorld) (valid : Val
   -- the event of a refused call
   pub on-call : (b : ByteWorld) → Encodes l n b w → (c : Call) → (runCall l b c .number ≡ 0 → ⊥)
       → Encodes l n (leaveAll b (runCall l b c .exits)) w
-  on-call b enc c h = encodes-all b enc (runCall l b c .exits) (all (runCall l b c .exits) (call-stays l b c h))
-    where
-      all : (xs : List Exit) → Each (Stays l b) xs → Each (λ x. Kept l n w (x .lent) (x .bytes)) xs
-      all [] s = tt
-      all (x ∷ xs) s = (stays-kept b enc (x .lent) (x .bytes) (s .0), all xs (s .1))
+  on-call b enc c h =
+      encodes-all b enc (runCall l b c .exits)
+      (each-map (λ x s. stays-kept b enc (x .lent) (x .bytes) s) (runCall l b c .exits) (call-stays l b c h))

@@ -66,7 +66,7 @@ fn take_turn(script: &[u8], p: usize, n: u8, b: Bench, i: u32, out: &mut [u8], a
     }
 }
 
-// The rows of all lines from byte p on, and the final line.
+// The rows of all lines from byte `from` on, and the final line.
 pub(crate) fn put_events(
     script: &[u8],
     from: usize,

@@ -33,6 +33,11 @@ is-empty Skip h = never h
 not-empty : (k : Kind) → isEmpty k ≡ false → k ≡ Empty → ⊥
 not-empty k h e = never (sym h ∙ ap isEmpty e)
 
+-- a place is left, also after a unit is put back
+pub place-left : (b : Bench) (u : ℕ) (x : U.Unit) → noPlaceLeft b u ≡ false → withUnit b u x .kept < places
+unfolding noPlaceLeft withUnit
+place-left b u x h = leb-false places (b .kept) h
+
 -- the bench's answer to an answer a of unit u
 pub record Settling (P : Reply → Type 0) (b : Bench) (u : ℕ) (a : Answer) : Type 0 where
   pub refuses : (numberOf (a .refusal) ≡ 0 → ⊥) → P (refused b (a .refusal))

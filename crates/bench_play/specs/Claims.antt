@@ -35,7 +35,7 @@ pub data Sending : Event → Type 0 where
   proposing : {u v : ℕ} → Sending (Event.Propose u v)
   delivering : {u k : ℕ} → Sending (Event.Deliver u k)
 
--- 11: all places are kept, and the event, a P or a D, would send
+-- 11: all places are filled, and the event, a P or a D, would send
 pub record NoPlace (l : Limits) (b : Bench) (e : Event) : Type 0 where
   pub kept : b .kept ≡ places
   pub would : WouldSend l b e

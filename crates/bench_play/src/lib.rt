@@ -108,8 +108,7 @@ impl Bench {
         ensures { λ r. ⌜ r ≡ unitAt self u ⌝ }
     {
         let at = u as usize;
-        let units = self.units;
-        units[at]
+        self.units[at]
     }
 
     fn message_at(self, k: u32) -> Message
@@ -117,8 +116,7 @@ impl Bench {
         ensures { λ r. ⌜ r ≡ messageAt self k ⌝ }
     {
         let at = k as usize;
-        let messages = self.messages;
-        messages[at]
+        self.messages[at]
     }
 
     fn refused(self, refusal: Refusal) -> Reply

@@ -11,7 +11,7 @@ use Rattle.bench_script.specs.Parts.{comma, newline}
 use Rattle.bench_text.specs.declared.Row.{Row}
 use Rattle.bench_text.specs.declared.Shown.{Shown}
 
--- n in decimal, of which there are at most k digits
+-- n in decimal, in at most k digits
 abbrev pub digits : ℕ → ℕ → List ℕ
 digits zero n = []
 digits (suc k) n = cond (ltb n 10) ((digitZero + n) ∷ []) (digits k (n / 10) ++ ((digitZero + n % 10) ∷ []))

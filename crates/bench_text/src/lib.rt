@@ -34,7 +34,7 @@ fn put_byte(out: &mut [u8], at: usize, b: u8) -> usize
     at + 1
 }
 
-// n in decimal, of which there are at most k digits.
+// n in decimal, in at most k digits.
 fn put_digits(out: &mut [u8], at: usize, n: u32, k: usize) -> usize
     requires { ⌜ at + length (digits k n) ≤ length (now out) ⌝ }
     requires { ⌜ 0 < k ⌝ }

@@ -42,6 +42,7 @@ kindOf x =
     (cond (eqb x (kindLetter Second)) (KindRead.Is Second)
     (cond (eqb x (kindLetter Skip)) (KindRead.Is Skip) KindRead.Unknown)))
 
+-- blank and split as they are stored; a mileage is its own number
 abbrev pub codeOf : Estimate → ℕ
 codeOf Blank = blankCode
 codeOf Split = splitCode

@@ -5,6 +5,7 @@ use super::codes;
 use super::logs;
 use super::numbers;
 use contents::Image;
+use contents::Log;
 use contents::Settings;
 use contents::State;
 use tally::Cell;
@@ -17,12 +18,13 @@ ghost use mathlib.Core.Path.{_≡_};
 ghost use mathlib.Core.List.{map};
 ghost use mathlib.Core.Option.{some};
 ghost use Prim.Native.Nat.{_+_, _≤_};
-ghost use lib.ListN.{length};
-ghost use Rattle.tally.specs.Limits.{today, imageSize, senders};
+ghost use lib.ListN.{length, replicate};
+ghost use Rattle.tally.specs.Limits.{today, imageSize, senders, blankCode};
 ghost use Rattle.tally.specs.Refusal.{numberOf};
+ghost use Rattle.tally.specs.Tally.{noMarks};
 ghost use Rattle.codec.specs.Numbers.{total, unpack, packInto};
 ghost use Rattle.codec.specs.Formats.{reading, wrote, checked, stored};
-ghost use Rattle.codec.specs.Images.{cellOf, cellCode, cellWidths, tallyWidths, tallyOf, tallyNumbers, noImage};
+ghost use Rattle.codec.specs.Images.{cellOf, cellCode, cellWidths, tallyWidths, tallyOf, tallyNumbers, withTallies, noImage};
 ghost use Rattle.codec.specs.Images.{imageOf, imageRow, imageFormat, imageBytes, imageReading, readImage, writeImage};
 
 // Where the tallies stand, and where a tally's estimates do.
@@ -36,10 +38,7 @@ fn cells_at(s: &[u8], at: usize) -> [Cell; limits::SENDERS]
     requires { ⌜ at + total cellWidths ≤ length (now s) ⌝ }
     ensures { λ r. ⌜ r ≡ map cellOf (unpack at cellWidths (now (s .entry))) ⌝ }
 {
-    let blank = Cell {
-        estimate: Estimate::Blank,
-    };
-    let mut cells = [blank; limits::SENDERS];
+    let mut cells = tally::NO_CELLS;
     let mut from = at;
     let mut k = 0;
     while k < limits::SENDERS {
@@ -83,6 +82,29 @@ fn put_tally(t: Tally, out: &mut [u8], at: usize)
     numbers::put16(out, at, t.marks);
     let cells = t.cells;
     put_cells(cells, out, at + AT_CELLS);
+}
+
+// Sixteen blanks.
+fn put_blanks(out: &mut [u8], at: usize)
+    requires { ⌜ at + total cellWidths ≤ length (now out) ⌝ }
+    ensures { λ _. ⌜ now (out .exit) ≡ packInto (now (out .entry)) at cellWidths (replicate senders blankCode) ⌝ }
+{
+    let mut from = at;
+    let mut k = 0;
+    while k < limits::SENDERS {
+        numbers::put32(out, from, limits::BLANK);
+        from += 4;
+        k += 1;
+    }
+}
+
+// A tally without marks.
+fn put_no_marks(out: &mut [u8], at: usize)
+    requires { ⌜ at + total tallyWidths ≤ length (now out) ⌝ }
+    ensures { λ _. ⌜ now (out .exit) ≡ packInto (now (out .entry)) at tallyWidths (tallyNumbers noMarks) ⌝ }
+{
+    numbers::put16(out, at, 0);
+    put_blanks(out, at + AT_CELLS);
 }
 
 fn image_at(engine: Engine, s: &[u8]) -> Image
@@ -154,11 +176,20 @@ fn put_image(i: Image, out: &mut [u8])
     requires { ⌜ length (now out) ≡ imageSize today ⌝ }
     ensures { λ _. ⌜ now (out .exit) ≡ imageBytes today i ⌝ }
 {
-    let checks = i.checks;
-    let seconds = i.seconds;
     logs::put_log(contents::images::image_log(i), out);
-    put_tally(checks, out, AT_CHECKS);
-    put_tally(seconds, out, AT_SECONDS);
+    put_tally(i.checks, out, AT_CHECKS);
+    put_tally(i.seconds, out, AT_SECONDS);
+}
+
+// Stores the image that a log gives, without marks; a buffer of another length keeps its bytes.
+pub fn store_unmarked(log: Log, out: &mut [u8])
+    ensures { λ _. ⌜ now (out .exit) ≡ stored (imageFormat today) (withTallies log noMarks noMarks) (now (out .entry)) ⌝ }
+{
+    if out.len() == limits::IMAGE_SIZE {
+        logs::put_log(log, out);
+        put_no_marks(out, AT_CHECKS);
+        put_no_marks(out, AT_SECONDS);
+    }
 }
 
 // Stores an image that is known to be well formed, with no test of it; a buffer of another length keeps its bytes.

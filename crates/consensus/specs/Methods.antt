@@ -24,6 +24,7 @@ use Rattle.consensus.specs.declared.Unit as U
 
 -- ---- the conditions of the table's rows
 
+-- 9: unit down, or for key-on not down
 abbrev pub isUp : Power → Bool
 isUp Down = false
 isUp Up = true

@@ -31,6 +31,7 @@ use Rattle.consensus.specs.declared.Unit as U
 abbrev pub emptyMessage : Message
 emptyMessage = record { kind = Empty; engine = B; n = 0; sender = 0; receiver = 0; entry = 0; round = 0; estimate = Blank; proposal = Blank }
 
+-- an accepted answer
 abbrev pub gives : U.Unit → Message → Estimate → Answer
 gives u m d = record { refusal = Refusal.None; unit = u; message = m; decision = d }
 
@@ -83,6 +84,7 @@ withSecond s e = record { round = s .round; proposal = s .proposal; first = s .f
 unfoldable pub logWrite : U.Unit → State → U.Unit
 logWrite u s = record { power = u .power; settings = u .settings; logged = s; current = s; checks = u .checks; seconds = u .seconds }
 
+-- the state at the beginning of a round
 abbrev pub clean : ℕ → Estimate → State
 clean r p = record { round = r; proposal = p; first = Blank; second = Blank }
 

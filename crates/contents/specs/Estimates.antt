@@ -9,10 +9,12 @@ use Rattle.tally.specs.declared.Engine.the-variants.{B, R}
 use Rattle.tally.specs.declared.Estimate.{Estimate}
 use Rattle.tally.specs.declared.Estimate.the-variants.{Blank, Split, Mileage}
 
+-- engine B
 abbrev pub isB : Engine → Bool
 isB B = true
 isB R = false
 
+-- mileage: 0 to the greatest
 abbrev pub inRange : Limits → ℕ → Bool
 inRange l m = leb m (l .maxMileage)
 

@@ -26,9 +26,11 @@ pub fn image_log(i: Image) -> Log
 pub fn place_ok(split: bool, n: u8, sender: u8, marked: bool, e: Estimate) -> bool
     ensures { λ r. ⌜ r ≡ placeOk today split n sender marked e ⌝ }
 {
-    (!marked | (sender < n))
-        & (marked | estimates::is_blank(e))
-        & (!marked | estimates::is_mileage(e) | (split & estimates::is_split(e)))
+    if marked {
+        (sender < n) & (estimates::is_mileage(e) | (split & estimates::is_split(e)))
+    } else {
+        estimates::is_blank(e)
+    }
 }
 
 pub fn places_ok(split: bool, n: u8, t: Tally) -> bool
@@ -36,7 +38,10 @@ pub fn places_ok(split: bool, n: u8, t: Tally) -> bool
 {
     let mut ok = true;
     for s in 0..limits::MAX_UNITS {
-        ok = ok & place_ok(split, n, s, tally::is_marked(t.marks, s), t.placed(s));
+        let at = s as usize;
+        let c = t.cells[at];
+        let e = c.estimate;
+        ok = ok & place_ok(split, n, s, tally::is_marked(t.marks, s), e);
     }
     ok
 }

@@ -109,6 +109,7 @@ abbrev pub settingsFor : EngineRead → ℕ → ℕ → ℕ → Settings
 settingsFor Unknown n unit entry = record { engine = B; n = n; unit = unit; entry = entry }
 settingsFor (Is g) n unit entry = record { engine = g; n = n; unit = unit; entry = entry }
 
+-- 1 and 2
 unfoldable pub startCallRows : Limits → ℕ → ℕ → ℕ → ℕ → List ℕ → List ℕ → List Row
 startCallRows l engine n unit entry log image =
     row Refusal.Length (unitLengths l log image)
@@ -121,6 +122,7 @@ startCall l engine n unit entry log image =
     unlessRow l (startCallRows l engine n unit entry log image) log image []
     (let u = fresh (settingsFor (engineOf engine) n unit entry) in called 0 (logBytes l (unitLog u)) (imageBytes l (unitImage u)) [] blankCode)
 
+-- 1 and 2
 unfoldable pub keyOnCallRows : Limits → List ℕ → List ℕ → List Row
 keyOnCallRows l log image =
     row Refusal.Length (unitLengths l log image)
@@ -133,6 +135,7 @@ keyOnCall l log image =
     unlessRow l (keyOnCallRows l log image) log image []
     (called 0 log (imageBytes l (unitImage (recovered (downUnit (readLog l log .contents))))) [] blankCode)
 
+-- 1, 2, 3 and 6
 unfoldable pub proposeCallRows : Limits → List ℕ → List ℕ → ℕ → List ℕ → List Row
 proposeCallRows l log image mileage out =
     row Refusal.Length (unitLengths l log image || wrongLength out (messageSize l))
@@ -148,6 +151,7 @@ proposeCall l log image mileage out =
     (let a = proposed (unitOf l log image) mileage in
     called 0 log (imageBytes l (unitImage (a .unit))) (messageBytes l (a .message .kind) (a .message)) blankCode)
 
+-- 1, 2, 3, 4, 5 and 7
 unfoldable pub deliverCallRows : Limits → List ℕ → List ℕ → List ℕ → List ℕ → List Row
 deliverCallRows l log image message out =
     row Refusal.Length (unitLengths l log image || wrongLength message (messageSize l) || wrongLength out (messageSize l))
@@ -158,6 +162,7 @@ deliverCallRows l log image message out =
     ∷ row Refusal.LastRound (closesLast l (unitOf l log image) (readMessage l message .contents))
     ∷ []
 
+-- the log is written too, as the step gives it
 unfoldable pub deliverCall : Limits → List ℕ → List ℕ → List ℕ → List ℕ → Called
 deliverCall l log image message out =
     unlessRow l (deliverCallRows l log image message out) log image out

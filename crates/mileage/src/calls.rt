@@ -4,14 +4,12 @@ use codec::ImageRead;
 use codec::LogRead;
 use consensus::Answer;
 use consensus::Unit;
-use contents::Image;
 use contents::Kind;
 use contents::Log;
 use contents::Message;
 use contents::Settings;
 use tally::Engine;
 use tally::Refusal;
-use tally::Tally;
 use tally::limits;
 ghost use mathlib.Core.Path.{_≡_};
 ghost use Rattle.tally.specs.Limits.{today};
@@ -21,8 +19,7 @@ ghost use Rattle.codec.specs.Formats.{stored};
 ghost use Rattle.codec.specs.Images.{imageFormat, imageReading, readImage};
 ghost use Rattle.codec.specs.Logs.{logFormat};
 ghost use Rattle.consensus.specs.Rows.{firstOf};
-ghost use Rattle.consensus.specs.Step.{recovered};
-ghost use Rattle.consensus.specs.Units.{unitLog, unitImage, upUnit, downUnit};
+ghost use Rattle.consensus.specs.Units.{unitLog, unitImage, upUnit};
 ghost use Rattle.mileage.specs.Calls.{called, unitLengths, unitOf, settingsNarrow, unfit, unitRows, storedMessage, storedAnswer};
 
 // Do the numbers of a start fit their types?
@@ -37,20 +34,6 @@ pub(crate) fn wrong_lengths(log: &[u8], image: &[u8]) -> bool
     ensures { λ r. ⌜ r ≡ unitLengths today (now (log .entry)) (now (image .entry)) ⌝ }
 {
     (log.len() != limits::LOG_SIZE) | (image.len() != limits::IMAGE_SIZE)
-}
-
-// The image that key-on makes of a log.
-pub(crate) fn image_of(log: Log) -> Image
-    ensures { λ r. ⌜ r ≡ unitImage (recovered (downUnit log)) ⌝ }
-{
-    let settings = log.settings;
-    let state = log.state;
-    Image {
-        settings,
-        state,
-        checks: Tally::empty(),
-        seconds: Tally::empty(),
-    }
 }
 
 // None where an image was read and fits its log, else Image.
@@ -111,8 +94,8 @@ pub(crate) fn put_unit(u: Unit, log: &mut [u8], image: &mut [u8])
     ensures logged { λ _. ⌜ now (log .exit) ≡ stored (logFormat today) (unitLog u) (now (log .entry)) ⌝ }
     ensures imaged { λ _. ⌜ now (image .exit) ≡ stored (imageFormat today) (unitImage u) (now (image .entry)) ⌝ }
 {
-    codec::logs::store_log(u.log(), log);
     codec::images::store_image(u.image(), image);
+    codec::logs::store_log(u.log(), log);
 }
 
 // Stores a message in a cleared buffer, which holds the empty message already.

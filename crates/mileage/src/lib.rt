@@ -85,7 +85,9 @@ pub extern "C" fn mileage_start(
     if !contents::logs::settings_ok(settings) {
         return tally::number(Refusal::Log);
     }
-    calls::put_unit(Unit::fresh(settings), log, image);
+    let l = Unit::fresh(settings).log();
+    codec::logs::store_log(l, log);
+    codec::images::store_unmarked(l, image);
     tally::number(Refusal::None)
 }
 
@@ -100,7 +102,7 @@ pub extern "C" fn mileage_key_on(log: &[u8], image: &mut [u8]) -> u32
     let LogRead::Read(l) = codec::logs::read_log(log) else {
         return tally::number(Refusal::Log);
     };
-    codec::images::store_image(calls::image_of(l), image);
+    codec::images::store_unmarked(l, image);
     tally::number(Refusal::None)
 }
 

@@ -62,13 +62,6 @@ module _ {A : Type 0} where
 
 -- ---- of the units below n
 
-length-upTo : (n : ℕ) → length (upTo n) ≡ n
-length-upTo zero = refl
-length-upTo (suc k) = ap suc (length-upTo k)
-
-pub count-le : (n : ℕ) (P : ℕ → Bool) → count n P ≤ n
-count-le n P = omega (arith, passing-le P (upTo n), length-upTo n)
-
 each-below : (n : ℕ) (F : ℕ → Type 0) → ((u : ℕ) → u < n → F u) → Each F (upTo n)
 each-below zero F f = tt
 each-below (suc k) F f = (f k (omega arith), each-below k F (λ u h. f u (omega arith)))

@@ -17,10 +17,6 @@ use Rattle.tally.proofs.Count.{passing-le, passing-all, passing-split, 
 use Rattle.tally.proofs.Never.{never}
 use Rattle.tally.proofs.Quorums.{majority-blocks}
 
-pub holders-le : (v : ℕ) (es : List Estimate) → holders v es ≤ length es
-unfolding holders
-holders-le v es = passing-le (holds v) es
-
 -- R: where fewer than a majority of the quorum gathered hold v, those that do not stop a quorum of v
 pub others-block : (n v : ℕ) (es : List Estimate) → length es ≡ quorumOf R n → holders v es < majorityOf n
     → n - quorumOf R n + 1 ≤ passing (λ e. not (holds v e)) es

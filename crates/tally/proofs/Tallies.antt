@@ -34,26 +34,22 @@ rest-step : (t : Tally) (s : ℕ) → s < senders → rest t s ≡ cond (isMarke
 unfolding gatheredFrom
 rest-step t s below = let e : senders - s ≡ suc (senders - (s + 1)) = omega arith in rw e (rw (add-one s))
 
--- the same, for a test that blank fails
-module _ (P : Estimate → Bool) (blank : P Blank ≡ false) (t : Tally) (s : ℕ) (below : s < senders) where
-  pub passing-step : passing P (rest t s) ≡ bump (P (held t s)) (passing P (rest t (s + 1)))
-  unfolding held
+-- the same, for those that pass a test
+module _ (P : Estimate → Bool) (t : Tally) (s : ℕ) (below : s < senders) where
+  pub passing-step : passing P (rest t s) ≡ bump (isMarked (t .marks) s && P (placed t s)) (passing P (rest t (s + 1)))
   passing-step = ap (passing P) (rest-step t s below) ∙ go (isMarked (t .marks) s) (rest t (s + 1))
     where
-      go : (b : Bool) (es : List Estimate) → passing P (cond b (placed t s ∷ es) es) ≡ bump (P (cond b (placed t s) Blank)) (passing P es)
+      go : (b : Bool) (es : List Estimate) → passing P (cond b (placed t s ∷ es) es) ≡ bump (b && P (placed t s)) (passing P es)
       go true es = refl
-      go false es = rw blank
+      go false es = refl
 
-  pub first-step : firstPassing P (rest t s) ≡ cond (P (held t s)) (held t s) (firstPassing P (rest t (s + 1)))
-  unfolding firstPassing held
+  pub first-step : firstPassing P (rest t s) ≡ cond (isMarked (t .marks) s && P (placed t s)) (placed t s) (firstPassing P (rest t (s + 1)))
+  unfolding firstPassing
   first-step = ap (firstPassing P) (rest-step t s below) ∙ go (isMarked (t .marks) s) (rest t (s + 1))
     where
-      here : Bool → Estimate
-      here b = cond b (placed t s) Blank
-
-      go : (b : Bool) (es : List Estimate) → firstPassing P (cond b (placed t s ∷ es) es) ≡ cond (P (here b)) (here b) (firstPassing P es)
+      go : (b : Bool) (es : List Estimate) → firstPassing P (cond b (placed t s ∷ es) es) ≡ cond (b && P (placed t s)) (placed t s) (firstPassing P es)
       go true es = refl
-      go false es = rw blank
+      go false es = refl
 
 -- those gathered that pass a test are the marked senders whose estimate does
 module _ (P : Estimate → Bool) (t : Tally) where

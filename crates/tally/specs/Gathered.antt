@@ -28,7 +28,7 @@ unfoldable pub allHold : ℕ → List Estimate → Bool
 allHold v [] = true
 allHold v (e ∷ es) = holds v e && allHold v es
 
--- the common mileage, or split if they differ
+-- the common mileage, or split if they differ: B 30 to 33 and 40, R 31
 unfoldable pub common : List Estimate → Estimate
 common [] = Split
 common (Blank ∷ es) = Split
@@ -40,7 +40,7 @@ unfoldable pub firstPassing : (Estimate → Bool) → List Estimate → Estimate
 firstPassing P [] = Blank
 firstPassing P (e ∷ es) = cond (P e) e (firstPassing P es)
 
--- the mileage seen, if any: the lowest sender's
+-- the mileage seen, if any: the lowest sender's: B 42
 unfoldable pub lowest : List Estimate → Estimate
 lowest es = firstPassing anyMileage es
 
@@ -50,7 +50,7 @@ leads need es Blank = false
 leads need es Split = false
 leads need es (Mileage v) = leb need (holders v es)
 
--- the majority mileage, or blank if there is none, where `need` of those gathered are a majority;
+-- the majority mileage, or blank if there is none, where `need` of those gathered are a majority: R 32 and 33;
 -- where `need` is over half of them no two mileages have it, so that it does not matter where the search begins
 unfoldable pub majority : ℕ → List Estimate → Estimate
 majority need es = firstPassing (leads need es) es

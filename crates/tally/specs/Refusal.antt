@@ -25,5 +25,5 @@ numberOf Line = 8
 numberOf Power = 9
 -- message number not yet sent
 numberOf Unsent = 10
--- event would send while all places are kept
+-- event would send while all places are filled
 numberOf Full = 11

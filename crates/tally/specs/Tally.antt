@@ -32,6 +32,7 @@ placed t s = getD (t .cells) s blankCell .estimate
 unfoldable pub held : Tally → ℕ → Estimate
 held t s = cond (isMarked (t .marks) s) (placed t s) Blank
 
+-- no sender is marked, and every place is blank
 unfoldable pub noMarks : Tally
 noMarks = record { marks = 0; cells = replicate senders blankCell }
 
@@ -44,6 +45,7 @@ unfoldable pub gatheredFrom : Tally → ℕ → ℕ → List Estimate
 gatheredFrom t s zero = []
 gatheredFrom t s (suc k) = cond (isMarked (t .marks) s) (placed t s ∷ gatheredFrom t (suc s) k) (gatheredFrom t (suc s) k)
 
+-- of all senders
 unfoldable pub gathered : Tally → List Estimate
 gathered t = gatheredFrom t 0 senders
 

@@ -7,7 +7,7 @@ ghost use lib.Count.{ones};
 ghost use Rattle.tally.specs.Limits.{senders};
 ghost use Rattle.tally.specs.Refusal.{numberOf};
 ghost use Rattle.tally.specs.Quorum.{quorumOf, majorityOf};
-ghost use Rattle.tally.specs.Tally.{isMarked, noMarks, mark, placed, held, gathered, gatheredFrom};
+ghost use Rattle.tally.specs.Tally.{isMarked, noMarks, mark, gathered, gatheredFrom};
 ghost use Rattle.tally.specs.Gathered.{anyMileage, holds, holders, common, lowest, leads, firstPassing, majority};
 
 // The engines of the scope paper: B after B*-Consensus, R after R*-Consensus.
@@ -119,16 +119,18 @@ pub fn holds(e: Estimate, v: u32) -> bool
     }
 }
 
+// Sixteen blanks.
+pub const NO_CELLS: [Cell; limits::SENDERS] = [Cell {
+    estimate: Estimate::Blank,
+}; limits::SENDERS];
+
 impl Tally {
     pub fn empty() -> Tally
         ensures { λ r. ⌜ r ≡ noMarks ⌝ }
     {
-        let blank = Cell {
-            estimate: Estimate::Blank,
-        };
         Tally {
             marks: 0,
-            cells: [blank; limits::SENDERS],
+            cells: NO_CELLS,
         }
     }
 
@@ -152,36 +154,16 @@ impl Tally {
         u16::count_ones(self.marks)
     }
 
-    // The estimate in a sender's place.
-    pub fn placed(self, sender: u8) -> Estimate
-        requires { ⌜ sender < senders ⌝ }
-        ensures { λ r. ⌜ r ≡ placed self sender ⌝ }
-    {
-        let at = sender as usize;
-        let cells = self.cells;
-        let c = cells[at];
-        c.estimate
-    }
-
-    // What a sender is marked with; blank where it is not marked.
-    pub fn held(self, sender: u8) -> Estimate
-        requires { ⌜ sender < senders ⌝ }
-        ensures { λ r. ⌜ r ≡ held self sender ⌝ }
-    {
-        if is_marked(self.marks, sender) {
-            self.placed(sender)
-        } else {
-            Estimate::Blank
-        }
-    }
-
     // How many of the marked hold the mileage v.
     pub fn holders(self, v: u32) -> u32
         ensures { λ r. ⌜ r ≡ holders v (gathered self) ⌝ }
     {
         let mut found: u32 = 0;
         for s in 0..limits::MAX_UNITS {
-            if holds(self.held(s), v) {
+            let at = s as usize;
+            let c = self.cells[at];
+            let e = c.estimate;
+            if is_marked(self.marks, s) & holds(e, v) {
                 found += 1;
             }
         }
@@ -193,8 +175,10 @@ impl Tally {
         ensures { λ r. ⌜ r ≡ lowest (gathered self) ⌝ }
     {
         for s in 0..limits::MAX_UNITS {
-            let e = self.held(s);
-            if any_mileage(e) {
+            let at = s as usize;
+            let c = self.cells[at];
+            let e = c.estimate;
+            if is_marked(self.marks, s) & any_mileage(e) {
                 return e;
             }
         }
@@ -246,8 +230,10 @@ fn leader_from(t: Tally, need: u32, sender: u8) -> Estimate
     if sender == limits::MAX_UNITS {
         return Estimate::Blank;
     }
-    let e = t.held(sender);
-    if t.leads(need, e) {
+    let at = sender as usize;
+    let c = t.cells[at];
+    let e = c.estimate;
+    if is_marked(t.marks, sender) & t.leads(need, e) {
         return e;
     }
     leader_from(t, need, sender + 1)

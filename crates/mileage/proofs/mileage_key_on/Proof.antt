@@ -4,6 +4,8 @@ use Rattle.tally.proofs.Bounds.{sane-today}
 use Rattle.codec.specs.Logs.{logReading}
 use Rattle.codec.specs.Messages.{cleared}
 use Rattle.consensus.specs.Rows.{firstOf}
+use Rattle.consensus.specs.Step.{recovered}
+use Rattle.consensus.specs.Units.{atLog, downUnit}
 use Rattle.mileage.specs.Calls.{badLog, keyOnCallRows, keyOnCall}
 use Rattle.mileage.proofs.Entries.{log-refused, image-stored, unit-sizes}
 use borrow.Author.Needs.{needs}
@@ -21,18 +23,17 @@ returns-2 c =
     )
 
 returns-3 : tie.Need-returns-3
-unfolding keyOnCall keyOnCallRows firstOf badLog
+unfolding keyOnCall keyOnCallRows firstOf badLog recovered downUnit atLog
 returns-3 c =
-    let b = c .before .before .before .before .before .before .before in
+    let b = c .before .before .before .before .before .before in
     let s = b .before .before .before in
     let right = sym (s .before .wrong-lengths .ensures) ∙ s .if1 .left in
     rw (
       right,
       ← sym (ap logReading (b .l .given .1)) ∙ b .before .before .read-log .ensures,
       c .number3 .ensures,
-      c .before .before .before .store-image .ensures,
+      c .before .before .before .store-unmarked .ensures,
       image-stored today _ (s .before .before .before .before .before .args .image .now) (unit-sizes today _ _ right .1),
-      c .before .before .before .before .before .image-of .ensures,
     )
 
 pub mileage-key-on-spec : {M : Type 1} → statement M
@@ -50,7 +51,6 @@ mileage-key-on-spec =
     (λ c κs. search needs)
     (λ c. search needs)
     returns-2
-    (λ c κs. search needs)
     (λ c κs. search needs)
     (λ c κs. search needs)
     (λ c. search needs)

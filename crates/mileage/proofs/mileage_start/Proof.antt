@@ -4,6 +4,8 @@ use borrow.Author.Tests.{not-true, not-false}
 use Rattle.tally.specs.Limits.{today}
 use Rattle.codec.specs.Messages.{cleared}
 use Rattle.consensus.specs.Rows.{firstOf}
+use Rattle.consensus.specs.Step.{fresh}
+use Rattle.consensus.specs.Units.{atLog}
 use Rattle.mileage.specs.Calls.{badSettings, startCallRows, startCall}
 use Rattle.mileage.proofs.Entries.{small, too-large, log-stored, image-stored, unit-sizes}
 use borrow.Author.Needs.{needs}
@@ -42,9 +44,9 @@ returns-4 c =
     )
 
 returns-5 : tie.Need-returns-5
-unfolding startCall startCallRows firstOf badSettings
+unfolding startCall startCallRows firstOf badSettings fresh atLog
 returns-5 c =
-    let p = c .before .before .before .before .before in
+    let p = c .before .before .before .before .before .before .before in
     let t = p .before .before .before .before in
     let b = t .before .before .before in
     let s = b .before .before .before .before .before in
@@ -55,10 +57,11 @@ returns-5 c =
       sym (b .before .before .engine-of .ensures) ∙ b .e .given .1,
       sym (t .before .settings-ok .ensures) ∙ not-false _ (t .if3 .left),
       c .number5 .ensures,
-      p .put-unit .ensures .0,
-      p .put-unit .ensures .1,
+      p .store-log .ensures,
+      c .before .before .before .store-unmarked .ensures,
       log-stored today _ (start .log .now) (unit-sizes today _ _ right .0),
       image-stored today _ (start .image .now) (unit-sizes today _ _ right .1),
+      p .before .before .log .ensures,
       p .before .before .before .fresh .ensures,
     )
 
@@ -96,6 +99,8 @@ mileage-start-spec =
     (λ c. search needs)
     (λ c. search needs)
     returns-4
+    (λ c κs. search needs)
+    (λ c κs. search needs)
     (λ c κs. search needs)
     (λ c κs. search needs)
     (λ c κs. search needs)

@@ -1,6 +1,6 @@
 -- `tally::leader_from` calls itself at the next unit number, so its measure is how many are left. Assumes nothing.
 use Prim.Native.Nat.{ℕ, _<_, _-_}
-use mathlib.Core.Path.{refl, sym, ap, _∙_}
+use mathlib.Core.Path.{sym, _∙_}
 use native.Mathlib.Omega.{arith}
 use borrow.Author.Needs.{needs}
 use borrow.Fn.Kinds.{In}
@@ -11,7 +11,7 @@ use Rattle.tally.specs.Tally.{gathered, gatheredFrom}
 use Rattle.tally.proofs.Tallies.{first-step}
 use Rattle.tally.proofs.leader_from.Reads as own
 use Rattle.tally.proofs.leader_from.Kinds as kinds
-use Rattle.tally.proofs.Tally.held.Reads as held-reads
+use Rattle.tally.proofs.is_marked.Reads as marked-reads
 use Rattle.tally.proofs.Tally.leads.Reads as leads-reads
 use Rattle.tally.proofs.+leader_from.Lts-leader_from as lts
 use Rattle.tally.proofs.+leader_from.{statement}
@@ -27,24 +27,24 @@ abbrev below : ℕ → In 0 kinds.ps
 below t = and 0 kinds.ps (falls 0 kinds.ps _<_ μ t) own.Pre
 
 pub +leader-from-spec : {M : Type 1} → statement M
-unfolding firstPassing leads gatheredFrom
-+leader-from-spec = close μ λ t. lts.spec (held-reads.Asked, held-reads.Learnt, leads-reads.Asked, leads-reads.Learnt, below t, own.Post) (at t) own.Post
+unfolding firstPassing gatheredFrom
++leader-from-spec = close μ λ t. lts.spec (marked-reads.Asked, marked-reads.Learnt, leads-reads.Asked, leads-reads.Learnt, below t, own.Post) (at t) own.Post
     (λ c. rw (c .if1 .taken))
-    (λ c κs. omega arith)
+    (λ c. search needs)
+    (λ c. search needs)
+    (λ c κs. search needs)
     (λ c κs. search needs)
     (λ c.
     let l = c .before in
-    let P = leads (l .before .before .before .args .need) (gathered (l .before .before .before .args .t)) in
-    let test = l .leads .ensures ∙ ap P (l .before .held .ensures) in
-    let step = rw (← test, c .if2 .taken) at (first-step P refl (l .before .before .before .args .t) (l .before .before .before .args .sender)
-    (omega arith)) in
-    l .before .held .ensures ∙ sym step)
+    let args = l .before .before .before .before .args in
+    let step = rw (← l .before .is-marked .ensures, ← l .leads .ensures, c .if2 .taken) at
+    (first-step (leads (args .need) (gathered (args .t1))) (args .t1) (args .sender) (omega arith)) in
+    sym step)
     (λ c. search needs)
     (λ c κs. (omega arith, omega arith))
     (λ c.
     let l = c .before .before in
-    let P = leads (l .before .before .before .args .need) (gathered (l .before .before .before .args .t)) in
-    let test = l .leads .ensures ∙ ap P (l .before .held .ensures) in
-    let step = rw (← test, c .before .if2 .left) at (first-step P refl (l .before .before .before .args .t) (l .before .before .before .args .sender)
-    (omega arith)) in
+    let args = l .before .before .before .before .args in
+    let step = rw (← l .before .is-marked .ensures, ← l .leads .ensures, c .before .if2 .left) at
+    (first-step (leads (args .need) (gathered (args .t1))) (args .t1) (args .sender) (omega arith)) in
     c .leader-from .ensures ∙ sym step)

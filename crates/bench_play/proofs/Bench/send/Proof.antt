@@ -1,5 +1,5 @@
 use mathlib.Core.Path.{sym, _∙_}
-use Rattle.bench_play.proofs.Kept.{place-left}
+use Rattle.bench_play.proofs.Settled.{place-left}
 use Rattle.bench_play.specs.Bench.{send}
 use borrow.Author.Needs.{needs}
 use Rattle.bench_play.proofs.Bench.send.Statement.{statement}

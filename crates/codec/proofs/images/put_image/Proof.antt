@@ -5,7 +5,7 @@ use Rattle.codec.proofs.images.put_image.Tie as tie
 
 returns : tie.Need-returns
 returns c =
-    let start = c .before .before .before .before .before .before .before .before .before .before .before .before .before .before .before .before in
+    let start = c .before .before .before .before .before .before .before .before .before .before .before .before .before .before in
     rw (
       c .before .before .put-tally2 .ensures .0,
       c .before .before .before .before .before .before .put-tally .ensures .0,

@@ -1,4 +1,3 @@
--- `codec::put_four` meets its contract: the four stores are those of the row. Assumes nothing.
 use borrow.Author.Needs.{needs}
 use Rattle.codec.proofs.numbers.put_four.Statement.{statement}
 use Rattle.codec.proofs.numbers.put_four.Tie as tie

@@ -18,16 +18,8 @@ abbrev μ-loop : tie.MeasureT-loop
 
 loop-again : tie.Need-loop-again Inv-loop μ-loop
 unfolding every
-loop-again c = (
-  omega arith,
-  rw (
-    add-one,
-    c .place-ok .ensures,
-    c .before .placed .ensures,
-    c .before .before .is-marked .ensures,
-    c .before .before .before .before .loop .inv .1,
-  ),
-)
+loop-again c =
+    (omega arith, rw (add-one, c .place-ok .ensures, c .before .is-marked .ensures, c .before .before .before .before .loop .inv .1))
 
 returns : tie.Need-returns Inv-loop μ-loop
 unfolding placesOk
@@ -43,7 +35,9 @@ places-ok-spec =
     Inv-loop
     μ-loop
     (λ c. (omega arith, refl))
-    (λ c κs. search needs)
+    (λ c. search needs)
+    (λ c. search needs)
+    (λ c. search needs)
     (λ c κs. search needs)
     (λ c κs. search needs)
     (λ c. search needs)

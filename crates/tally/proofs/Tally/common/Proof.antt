@@ -11,7 +11,6 @@ returns-3 c =
     let b = c .before .before in
     let self = b .before .before .before .before .before .args .self in
     let low = sym (b .before .before .before .before .lowest .ensures) ∙ b .before .before .low .given .1 in
-    let same = b .holders .ensures in
     rw (common-counted, low, ← (b .holders .ensures), length-gathered self (search needs), ← (c .before .count .ensures), eq-eqb _ _ (c .if1 .taken))
 
 returns-4 : tie.Need-returns-4
@@ -19,7 +18,6 @@ returns-4 c =
     let b = c .before .before in
     let self = b .before .before .before .before .before .args .self in
     let low = sym (b .before .before .before .before .lowest .ensures) ∙ b .before .before .low .given .1 in
-    let same = b .holders .ensures in
     rw (common-counted, low, ← (b .holders .ensures), length-gathered self (search needs), ← (c .before .count .ensures), ne-eqb _ _ (c .if1 .left))
 
 pub common-spec : {M : Type 1} → statement M

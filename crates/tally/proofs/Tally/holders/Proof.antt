@@ -1,6 +1,6 @@
 -- The invariant: those counted so far and those still to come are all. Assumes nothing.
 use Prim.Native.Nat.{_+_, _-_, _≤_}
-use mathlib.Core.Path.{_≡_, refl, ap, _∙_}
+use mathlib.Core.Path.{_≡_}
 use mathlib.Core.Logic.{⊎-elim}
 use native.Mathlib.Omega.{arith}
 use borrow.Author.Needs.{needs}
@@ -13,18 +13,17 @@ use Rattle.tally.proofs.Tally.holders.Statement.{statement}
 use Rattle.tally.proofs.Tally.holders.Tie as tie
 
 abbrev Inv-loop : tie.InvT-loop
-Inv-loop self v n₀ s₀ n s = (s ≤ senders) × ((n ≤ s) × (n + passing (holds v) (rest self s) ≡ holders v (gathered self)))
+Inv-loop v self n₀ s₀ n s = (s ≤ senders) × ((n ≤ s) × (n + passing (holds v) (rest self s) ≡ holders v (gathered self)))
 
 abbrev μ-loop : tie.MeasureT-loop
-μ-loop self v n₀ s₀ n s = senders - s
+μ-loop v self n₀ s₀ n s = senders - s
 
 loop-again : tie.Need-loop-again Inv-loop μ-loop
 loop-again c =
-    let l = c .before .before .before .before .loop in
-    let self = c .before .before .before .before .before .args .self in
-    let v = c .before .before .before .before .before .args .v in
-    let test = c .before .holds .ensures ∙ ap (holds v) (c .before .before .held .ensures) in
-    let step = rw (← test) at (passing-step (holds v) refl self (l .s) (c .before .before .before .loop-test .taken)) in (
+    let d = c .before .before .before .before in
+    let args = d .before .before .args in
+    let step = rw (← c .before .before .is-marked .ensures, ← c .before .holds .ensures) at
+    (passing-step (holds (args .v)) (args .t1) (d .before .loop .s) (d .loop-test .taken)) in (
       omega arith,
       (
         ⊎-elim (λ w. omega arith) (λ w. omega arith) (c .if1 .came),
@@ -47,6 +46,9 @@ holders-spec =
     Inv-loop
     μ-loop
     (λ c. (omega arith, (omega arith, omega arith)))
+    (λ c. search needs)
+    (λ c. search needs)
+    (λ c. search needs)
     (λ c κs. search needs)
     (λ c κs. search needs)
     (λ c. search needs)

@@ -1,6 +1,6 @@
 -- The invariant: the lowest is among those still to come. Assumes nothing.
 use Prim.Native.Nat.{_-_, _≤_}
-use mathlib.Core.Path.{_≡_, refl, sym, ap, _∙_}
+use mathlib.Core.Path.{_≡_, refl, sym, _∙_}
 use native.Mathlib.Omega.{arith}
 use borrow.Author.Needs.{needs}
 use Rattle.tally.specs.Limits.{senders}
@@ -18,19 +18,17 @@ abbrev μ-loop : tie.MeasureT-loop
 
 returns : tie.Need-returns Inv-loop μ-loop
 returns c =
-    let l = c .before .before .before .before .loop in
-    let self = c .before .before .before .before .before .args .self in
-    let test = c .before .any-mileage .ensures ∙ ap anyMileage (c .before .before .held .ensures) in
-    let step = rw (← test, c .if1 .taken) at (first-step anyMileage refl self (l .s) (c .before .before .before .loop-test .taken)) in
-    c .before .before .held .ensures ∙ sym step ∙ l .inv .1
+    let d = c .before .before .before .before in
+    let step = rw (← c .before .before .is-marked .ensures, ← c .before .any-mileage .ensures, c .if1 .taken) at
+    (first-step anyMileage (d .before .before .args .t1) (d .before .loop .s) (d .loop-test .taken)) in
+    sym step ∙ d .before .loop .inv .1
 
 loop-again : tie.Need-loop-again Inv-loop μ-loop
 loop-again c =
-    let l = c .before .before .before .before .loop in
-    let self = c .before .before .before .before .before .args .self in
-    let test = c .before .any-mileage .ensures ∙ ap anyMileage (c .before .before .held .ensures) in
-    let step = rw (← test, c .if1 .left) at (first-step anyMileage refl self (l .s) (c .before .before .before .loop-test .taken)) in
-    (omega arith, sym step ∙ l .inv .1)
+    let d = c .before .before .before .before in
+    let step = rw (← c .before .before .is-marked .ensures, ← c .before .any-mileage .ensures, c .if1 .left) at
+    (first-step anyMileage (d .before .before .args .t1) (d .before .loop .s) (d .loop-test .taken)) in
+    (omega arith, sym step ∙ d .before .loop .inv .1)
 
 returns-2 : tie.Need-returns-2 Inv-loop μ-loop
 unfolding firstPassing gatheredFrom
@@ -46,6 +44,9 @@ lowest-spec =
     Inv-loop
     μ-loop
     (λ c. (omega arith, refl))
+    (λ c. search needs)
+    (λ c. search needs)
+    (λ c. search needs)
     (λ c κs. search needs)
     (λ c κs. search needs)
     returns
