@@ -114,8 +114,8 @@ static void deliver(struct unit *unit, const uint8_t *message)
     memcpy(log, unit->permanent, sizeof log);
     number = mileage_deliver(log, sizeof log, unit->image, sizeof unit->image, message, MILEAGE_MESSAGE_LENGTH,
                              out, sizeof out, &decision);
-    if (number == MILEAGE_NOT_FOR_UNIT) /* another unit's SKIP, or another entry: nothing has changed */
-        return;
+    if (number == MILEAGE_MALFORMED_MESSAGE || number == MILEAGE_NOT_FOR_UNIT || number == MILEAGE_LAST_ROUND)
+        return; /* nothing has changed; 5 is another unit's SKIP, or another entry's message */
     must(number == MILEAGE_ACCEPTED, "deliver");
     memcpy(unit->permanent, log, sizeof log);
     if (unit->cut) {
@@ -132,14 +132,16 @@ static void deliver(struct unit *unit, const uint8_t *message)
     send_out(unit, out);
 }
 
-/* The oldest message not yet carried goes to every unit that is on, its sender too; on the way to one of them it is lost. */
+/* The oldest message not yet carried goes to every unit that is on, its sender too, but not to the one that loses it. */
 static void carry(int lost_by)
 {
     const uint8_t *message = sent[carried];
 
     printf("the bus carries message %u: ", carried++);
     show(message);
-    printf(lost_by == NOBODY ? "\n" : ", lost on the way to %s\n", units[lost_by % UNITS].name);
+    if (lost_by != NOBODY)
+        printf(", lost on the way to %s", units[lost_by].name);
+    printf("\n");
     for (int number = 0; number < UNITS; number++)
         if (units[number].on && number != lost_by)
             deliver(&units[number], message);

@@ -28,7 +28,8 @@ extern "C" {
 #define MILEAGE_MESSAGE_LENGTH 18
 #define MILEAGE_MESSAGE_FIELDS 9
 
-/* What stands where there is no mileage. Blank: nothing yet. Split: the CHECKs gathered were not of one mileage. */
+/* A mileage is 0 to 9,999,999, in hundred-metre steps. What stands where there is none: blank, nothing yet; split, the
+ * CHECKs gathered were not of one mileage. */
 #define MILEAGE_BLANK UINT32_C(4294967295)
 #define MILEAGE_SPLIT UINT32_C(4294967294)
 
@@ -51,30 +52,29 @@ extern "C" {
 #define MILEAGE_LAST_ROUND UINT32_C(7)
 
 /*
- * What fields hold. Engine letter: 'B' or 'R'. n, the units: 3 to 16. A unit: below n. Entry: 1 to 9,999. Round: 0 to
- * 9,999. Proposals and estimates: a mileage, 0 to 9,999,999, or blank or split where the kind and the engine allow it.
- * Kind letter of a message: 'F' (FIRST), 'C' (CHECK, in B only), 'S' (SECOND), 'K' (SKIP).
- */
-
-/*
  * A unit of one entry has a log, kept in permanent memory, and an image, kept in working memory and lost at key-off.
  * All that the unit is lies in these two. Firmware lends both to every call and need not understand either. It does this:
  *
- * - Once for each entry, before any other call: mileage_start, with the same engine, n and entry in all units and a unit
- *   number of its own in each; the log goes to permanent memory. Never again for that entry, or the unit forgets what it
- *   has promised the others.
- * - After each key-on, before any other call: mileage_key_on, with the log from permanent memory.
- * - Log and image are lent in pairs: the log is the last one written to permanent memory, the image is the one that the
- *   last call on this entry left, and never a copy from before a key-off.
- * - To propose a mileage, or to try again after some time without a decision: mileage_propose. The log stays as it is.
- * - For each message from the bus, its own messages to everyone too: mileage_deliver. If the log has changed
- *   (its 20 bytes differ from those before the call), the whole log goes to permanent memory, and only then does the
- *   message in the output buffer leave. It is written as one piece: after a key-off the old log or the new one stands,
- *   never a mix. Writing it every time is right too.
+ * - Once for each entry: mileage_start, with the same engine, n and entry in all units and a unit number of its own in
+ *   each. The log goes to permanent memory before any other call of that entry. Once it is there, never again for that
+ *   entry, or the unit forgets what it has promised the others.
+ * - After each key-on, for each entry still open, before any other call: mileage_key_on, with the log from permanent memory.
+ * - Which log and image to lend: those of the message's entry; as log a copy, in working memory, of the last one that went
+ *   to permanent memory, never that memory itself (a call writes in pieces); as image the one that the last call on this
+ *   entry left. Calls on one entry come one after the other.
+ * - To propose a mileage, or to try again after some time without a decision: mileage_propose, as often as you like, with
+ *   any mileage in range. The log stays as it is.
+ * - For each message from the bus, its own messages to everyone too, and also after its decision: mileage_deliver. If the
+ *   log has changed (its 20 bytes differ from those before the call), the whole log goes to permanent memory, and only
+ *   then does the message in the output buffer leave. It is written as one piece: after a key-off the old log or the new
+ *   one stands, never a mix. Writing it every time is right too. If it cannot be written, send nothing, and go on with
+ *   mileage_key_on.
  * - A message of 18 zero bytes in the output buffer is no message. Any other goes to all units, its sender too, or, if
- *   its kind is 'K', to the one unit that its byte 4, counted from 0, names. A message may be lost, late or delivered
- *   more than once, but never altered.
- * - After a refusal nothing needs to be written or sent, and the unit goes on from the same log and image.
+ *   its kind is 'K', to the one unit that its byte 4, counted from 0, names; the others refuse it with 5. A message may be
+ *   lost, late or delivered more than once, but never altered, and none may come that no unit sent.
+ * - A decision is firmware's to keep. A unit may report it again, always the same mileage as long as all units do all this.
+ * - After a refusal nothing is to be written or sent, and the unit goes on from the same log and image; but with 3 the two
+ *   were no pair: go on with mileage_key_on. If that gives 2, the log is lost: the unit takes no further part in the entry.
  */
 
 /*
@@ -96,13 +96,23 @@ uint32_t mileage_propose(const uint8_t *log, size_t log_len, uint8_t *image, siz
                          uint8_t *out, size_t out_len);
 
 /*
- * Delivers a message to the unit. Reads log, image and message; writes the image, the log where the step logs, and to
- * the output buffer the message that goes out, or the empty one. `decision` is always written: the mileage decided, or
- * MILEAGE_BLANK where there is none, on a refusal too. A unit may report its decision again, always the same mileage
- * as long as all units are used as above. Answers 0, 1, 2, 3, 4, 5 or 7.
+ * Delivers a message to the unit. Reads log, image and message; writes the image, the log (with the same bytes where the
+ * step does not log), and to the output buffer the message that goes out, or the empty one. `decision` is always written:
+ * the mileage decided, or MILEAGE_BLANK where there is none, on a refusal too. Answers 0, 1, 2, 3, 4, 5 or 7.
  */
 uint32_t mileage_deliver(uint8_t *log, size_t log_len, uint8_t *image, size_t image_len,
                          const uint8_t *message, size_t message_len, uint8_t *out, size_t out_len, uint32_t *decision);
+
+/*
+ * Logs and messages as numbers, for tools, for tests, and to learn a message's entry. A log or message that was made here
+ * must not be lent as a unit's log or put on the bus.
+ *
+ * Engine letter: 'B' or 'R'. n, the units: 3 to 16. A unit: below n. Entry: 1 to 9,999. Round: 0 to 9,999.
+ * A log's proposal and first estimate: a mileage or blank. Its second estimate: a mileage, split or blank; in R blank.
+ * Kind letter of a message: 'F' (FIRST), 'C' (CHECK, in B only), 'S' (SECOND), 'K' (SKIP). Receiver: a unit for K, else
+ * MILEAGE_EVERYONE. F and C: estimate and proposal are the same mileage. S: estimate a mileage or, in B, split; proposal
+ * a mileage or blank. K: estimate blank; proposal a mileage or blank.
+ */
 
 /*
  * The fields of a log, in this order: engine letter, n, unit, entry, round, proposal, first estimate, second estimate.

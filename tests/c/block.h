@@ -1,6 +1,6 @@
 /*
- * Memory as the tests lend it: each buffer is a heap block of its own of exactly its length, so that valgrind and
- * AddressSanitizer see every byte that is read or written outside it.
+ * Memory as the tests lend it: each buffer is a heap block of its own of exactly its length, so that valgrind sees every
+ * byte that the archive reads or writes outside it. (AddressSanitizer sees the C side alone.)
  */
 #ifndef BLOCK_H
 #define BLOCK_H

@@ -58,17 +58,28 @@ static int play(void)
     return decided[0] == WANTED && decided[1] == WANTED && decided[2] == WANTED ? 0 : 4;
 }
 
+static int differ(const uint8_t *a, const uint8_t *b, size_t count)
+{
+    int different = 0;
+
+    for (size_t i = 0; i < count; i++)
+        different |= a[i] != b[i];
+    return different;
+}
+
 static int fields(void)
 {
     uint32_t log_fields[MILEAGE_LOG_FIELDS], message_fields[MILEAGE_MESSAGE_FIELDS];
+    uint8_t log[MILEAGE_LOG_LENGTH], message[MILEAGE_MESSAGE_LENGTH];
 
-    if (mileage_key_on(logs[0], sizeof logs[0], images[0], sizeof images[0]) != MILEAGE_ACCEPTED)
+    if (mileage_key_on(logs[0], sizeof logs[0], images[0], sizeof images[0]) != MILEAGE_ACCEPTED || differ(logs[0], images[0], sizeof log))
         return 5;
     if (mileage_read_log(logs[0], sizeof logs[0], log_fields, MILEAGE_LOG_FIELDS) != MILEAGE_ACCEPTED
-        || mileage_write_log(log_fields, MILEAGE_LOG_FIELDS, logs[0], sizeof logs[0]) != MILEAGE_ACCEPTED)
+        || mileage_write_log(log_fields, MILEAGE_LOG_FIELDS, log, sizeof log) != MILEAGE_ACCEPTED || differ(logs[0], log, sizeof log))
         return 6;
     if (mileage_read_message(sent[0], sizeof sent[0], message_fields, MILEAGE_MESSAGE_FIELDS) != MILEAGE_ACCEPTED
-        || mileage_write_message(message_fields, MILEAGE_MESSAGE_FIELDS, sent[0], sizeof sent[0]) != MILEAGE_ACCEPTED)
+        || mileage_write_message(message_fields, MILEAGE_MESSAGE_FIELDS, message, sizeof message) != MILEAGE_ACCEPTED
+        || differ(sent[0], message, sizeof message))
         return 7;
     return 0;
 }

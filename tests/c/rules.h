@@ -192,7 +192,20 @@ static inline void check_marks(void)
         }
 }
 
-/* Each wrong length of each buffer that the call is lent. */
+/* One buffer has a wrong length, each in turn. */
+static inline void check_each_length(void)
+{
+    for (enum which which = KEY_ON; which < CALLS; which++)
+        for (unsigned buffer = 0, place = 1; buffer < BUFFERS; buffer++, place *= LENGTHS)
+            for (unsigned choice = 1; choice < LENGTHS; choice++) {
+                struct call before = base_call(which, 0);
+
+                set_lengths(&before, choice * place);
+                must_answer("one length", &before, rights[which].lent >> buffer & 1 ? MILEAGE_WRONG_LENGTH : MILEAGE_ACCEPTED);
+            }
+}
+
+/* Each set of lengths, right and wrong. */
 static inline void check_lengths(void)
 {
     for (size_t base = 0; base < COUNT(bases); base++)

@@ -20,10 +20,10 @@ static ucontext_t here, there;
 static struct call running;
 static int running_kind;
 
-/* The four calls of fields, on a log and a message that read. */
+/* The four calls of fields, whether log and message read or not. */
 static void run_fields(void)
 {
-    uint32_t fields[MILEAGE_MESSAGE_FIELDS];
+    uint32_t fields[MILEAGE_MESSAGE_FIELDS] = {0};
 
     mileage_read_log(running.bytes[LOG], MILEAGE_LOG_LENGTH, fields, MILEAGE_LOG_FIELDS);
     mileage_write_log(fields, MILEAGE_LOG_FIELDS, running.bytes[LOG], MILEAGE_LOG_LENGTH);
