@@ -129,18 +129,19 @@ fn template_of(call: &Call) -> Template {
     }
 }
 
-fn history(engine: u8, n: u32) -> Vec<Template> {
+fn history(engine: u8, n: u32) -> Result<Vec<Template>, String> {
     let setting = Setting {
         engine,
         n,
         entry: 7,
         rounds: Vec::new(),
     };
-    let calls = deliveries(&INDEPENDENT, &setting, &mut Random::new(412_077)).unwrap_or_default();
-    calls.iter().map(template_of).collect()
+    let calls = deliveries(&INDEPENDENT, &setting, &mut Random::new(412_077))
+        .map_err(|trouble| format!("no history for the benchmark: {trouble}"))?;
+    Ok(calls.iter().map(template_of).collect())
 }
 
-fn cases_of(engine: u8, n: u32) -> Vec<Case> {
+fn cases_of(engine: u8, n: u32) -> Result<Vec<Case>, String> {
     let last = quorum(engine, n) - 1;
     let mut start = unit(engine, n, None);
     (start.entry, start.numbers) = (Entry::Start, [engine.into(), n, 1, 7]);
@@ -164,7 +165,7 @@ fn cases_of(engine: u8, n: u32) -> Vec<Case> {
             "above-raises",
             vec![deliver(Some((SECOND_MARKS, last)), b'S', 5)],
         ),
-        ("history", history(engine, n)),
+        ("history", history(engine, n)?),
     ];
     if engine == b'B' {
         rows.insert(4, ("check-marks", vec![deliver(None, b'C', 4)]));
@@ -180,12 +181,13 @@ fn cases_of(engine: u8, n: u32) -> Vec<Case> {
         name: format!("{name}-{}-{n}", engine as char),
         templates,
     };
-    rows.into_iter().map(case).collect()
+    Ok(rows.into_iter().map(case).collect())
 }
 
-pub fn all() -> Vec<Case> {
-    [(b'B', 3), (b'R', 3), (b'B', 16), (b'R', 16)]
-        .into_iter()
-        .flat_map(|(engine, n)| cases_of(engine, n))
-        .collect()
+pub fn all() -> Result<Vec<Case>, String> {
+    let mut cases = Vec::new();
+    for (engine, n) in [(b'B', 3), (b'R', 3), (b'B', 16), (b'R', 16)] {
+        cases.extend(cases_of(engine, n)?);
+    }
+    Ok(cases)
 }

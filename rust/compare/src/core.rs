@@ -54,7 +54,9 @@ extern "C" {
     ) -> u32;
 }
 
-// Each call below is sound for one reason: a slice's pointer is valid for its length, and slices lent at once do not overlap.
+// Each call below is sound for these reasons: a slice's pointer is valid for its length and not null, `decision` is a reference and so
+// valid for one number, what is lent at once does not overlap, and the archive keeps to the header: it touches nothing else, and only
+// reads what is passed as const.
 
 pub fn start(engine: u32, n: u32, unit: u32, entry: u32, log: &mut [u8], image: &mut [u8]) -> u32 {
     unsafe {

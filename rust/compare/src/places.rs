@@ -2,10 +2,11 @@
 
 use std::path::{Path, PathBuf};
 
+/// The package's folder is the one that cargo runs this for; run without cargo, the one it was built in.
 fn from_root(path: &str) -> PathBuf {
-    Path::new(env!("CARGO_MANIFEST_DIR"))
-        .join("../..")
-        .join(path)
+    let package = std::env::var_os("CARGO_MANIFEST_DIR");
+    let package = package.unwrap_or_else(|| env!("CARGO_MANIFEST_DIR").into());
+    Path::new(&package).join("../..").join(path)
 }
 
 pub fn program() -> PathBuf {

@@ -3,15 +3,16 @@
 use crate::made::{self, Make};
 use crate::places;
 use crate::play::PLACES;
-use crate::program::Feed;
+use crate::program::{Failure, Feed};
 use crate::random::Random;
 use crate::script_damage;
 use crate::shrink::fewer;
 use std::fmt::Write;
+use std::ops::Range;
 use std::path::Path;
 
 /// What plays a script and gives its listing.
-pub type Player<'a> = &'a dyn Fn(&[u8], Feed) -> Result<Vec<u8>, String>;
+pub type Player<'a> = &'a dyn Fn(&[u8], Feed) -> Result<Vec<u8>, Failure>;
 
 /// How often a script is played to make it smaller: first its lines, then its bytes.
 const MOST_TRIES: u32 = 2_000;
@@ -112,31 +113,49 @@ impl Tally {
     }
 }
 
-/// Printable bytes as they are, others by their value; a line's end also ends the line here.
-fn shown(bytes: &[u8]) -> String {
-    let mut text = String::new();
-    for &byte in bytes.iter().take(4000) {
+/// How much of a script is shown, and how many lines before and behind a difference of listings.
+const MOST_LINES: usize = 100;
+const MOST_BYTES: usize = 4000;
+const AROUND: usize = 10;
+
+/// These lines: printable bytes as they are, others by their value; a line's end also ends the line here.
+fn shown(bytes: &[u8], wanted: Range<usize>) -> String {
+    let lines: Vec<&[u8]> = bytes.split_inclusive(|&byte| byte == b'\n').collect();
+    let (from, to) = (wanted.start.min(lines.len()), wanted.end.min(lines.len()));
+    let part = lines[from..to].concat();
+    let mut text = match to - from {
+        all if all == lines.len() => format!("{all} lines:\n"),
+        _ => format!("lines {} to {to} of {}:\n", from + 1, lines.len()),
+    };
+    for &byte in part.iter().take(MOST_BYTES) {
         let _ = match byte {
             b'\n' => writeln!(text, "\\n"),
             b'\\' | 0..=31 | 127..=255 => write!(text, "\\x{byte:02x}"),
             _ => write!(text, "{}", byte as char),
         };
     }
-    let rest = bytes.len().saturating_sub(4000);
-    text + if rest > 0 {
-        "... (cut here)\n"
-    } else {
-        "(the end)\n"
+    text + match (part.len() > MOST_BYTES, to < lines.len()) {
+        (true, _) => "... (cut here)\n",
+        (_, true) => "...\n",
+        _ => "(the end)\n",
     }
 }
 
-/// The question, so often at most; after that the answer is no.
-fn within_tries<T>(mut fails: impl FnMut(&[T]) -> bool) -> impl FnMut(&[T]) -> bool {
-    let mut left = MOST_TRIES;
-    move |items| {
-        left = left.saturating_sub(1);
-        left > 0 && fails(items)
-    }
+/// Where two listings differ first, and the lines there.
+fn difference(one: &[u8], other: &[u8]) -> String {
+    let same = one
+        .iter()
+        .zip(other)
+        .take_while(|(one, other)| one == other);
+    let at = same.count();
+    let line = one[..at].iter().filter(|&&byte| byte == b'\n').count();
+    let around = line.saturating_sub(AROUND)..line + AROUND + 1;
+    format!(
+        "they differ first in line {}, at byte {at} of the listing\nprogram, {}independent, {}",
+        line + 1,
+        shown(one, around.clone()),
+        shown(other, around)
+    )
 }
 
 /// The sides that play: the first is the program.
@@ -144,44 +163,59 @@ pub struct Players<'a>(pub Player<'a>, pub Player<'a>);
 
 impl Players<'_> {
     /// The listing that both give.
-    fn agreed(&self, script: &[u8], feed: Feed) -> Result<Vec<u8>, String> {
-        let (one, other) = (self.0(script, feed), self.1(script, feed));
-        match (one, other) {
-            (Ok(one), Ok(other)) if one == other => Ok(one),
-            (Ok(one), Ok(other)) => Err(format!(
-                "program:\n{}independent:\n{}",
-                shown(&one),
-                shown(&other)
-            )),
-            (Err(one), _) => Err(one),
-            (_, Err(other)) => Err(other),
+    fn agreed(&self, script: &[u8], feed: Feed) -> Result<Vec<u8>, Failure> {
+        let (one, other) = (self.0(script, feed)?, self.1(script, feed)?);
+        if one == other {
+            Ok(one)
+        } else {
+            Err(Failure::Other(difference(&one, &other)))
         }
     }
 
-    /// Fewer lines, then fewer bytes, on which they still differ.
-    fn report(&self, script: &[u8], feed: Feed) -> String {
+    /// Whether they still do not agree. Once a program hangs, no tries are left.
+    fn still_fails(&self, script: &[u8], feed: Feed, tries: &mut u32) -> bool {
+        let result = self.agreed(script, feed);
+        let hangs = matches!(result, Err(Failure::Hangs(_)));
+        *tries = if hangs { 0 } else { *tries - 1 };
+        result.is_err() && !hangs
+    }
+
+    /// Fewer lines, then fewer bytes, on which they still do not agree.
+    fn shrunk(&self, script: &[u8], feed: Feed) -> Vec<u8> {
         let lines: Vec<&[u8]> = script.split_inclusive(|&byte| byte == b'\n').collect();
-        let lines = fewer(
-            lines,
-            &mut within_tries(|lines: &[&[u8]]| self.agreed(&lines.concat(), feed).is_err()),
-        );
-        let bytes = fewer(
-            lines.concat(),
-            &mut within_tries(|bytes: &[u8]| self.agreed(bytes, feed).is_err()),
-        );
-        let trouble = self.agreed(&bytes, feed).err().unwrap_or_default();
+        let mut tries = MOST_TRIES;
+        let lines = fewer(lines, &mut |lines| {
+            tries > 0 && self.still_fails(&lines.concat(), feed, &mut tries)
+        });
+        let mut tries = MOST_TRIES;
+        fewer(lines.concat(), &mut |bytes| {
+            tries > 0 && self.still_fails(bytes, feed, &mut tries)
+        })
+    }
+
+    /// A script on which a program hangs is reported as it is.
+    fn report(&self, script: &[u8], feed: Feed, failure: Failure) -> String {
+        if let Failure::Hangs(what) = failure {
+            let text = shown(script, 0..MOST_LINES);
+            return format!(
+                "FAILED, fed {feed:?}: {what}; the script, {} bytes in {text}",
+                script.len()
+            );
+        }
+        let bytes = self.shrunk(script, feed);
+        let failure = self.agreed(&bytes, feed).err().unwrap_or(failure);
         format!(
-            "FAILED, shrunk from {} to {} bytes, fed {feed:?}:\n{}{trouble}",
+            "FAILED, shrunk from {} to {} bytes, fed {feed:?}, in {}{failure}",
             script.len(),
             bytes.len(),
-            shown(&bytes)
+            shown(&bytes, 0..MOST_LINES)
         )
     }
 
     fn check(&self, script: &[u8], feed: Feed, tally: &mut Tally) -> Result<(), String> {
         let listing = self
             .agreed(script, feed)
-            .map_err(|_| self.report(script, feed))?;
+            .map_err(|failure| self.report(script, feed, failure))?;
         tally.count(&listing, feed);
         Ok(())
     }
@@ -196,7 +230,7 @@ fn some_feed(script: &[u8], random: &mut Random) -> Feed {
     }
 }
 
-/// Every file in the folders of stored scripts.
+/// Every file in the folders of stored scripts, by name: the order of a folder is not the same on every machine.
 pub fn stored(folders: &[impl AsRef<Path>]) -> Result<Vec<Vec<u8>>, String> {
     let mut scripts = Vec::new();
     for folder in folders {
@@ -204,8 +238,15 @@ pub fn stored(folders: &[impl AsRef<Path>]) -> Result<Vec<Vec<u8>>, String> {
         let failed = |error: std::io::Error| {
             format!("FAILED: stored scripts in {}: {error}", folder.display())
         };
-        for file in std::fs::read_dir(folder).map_err(failed)? {
-            scripts.push(std::fs::read(file.map_err(failed)?.path()).map_err(failed)?);
+        let files = std::fs::read_dir(folder).map_err(failed)?;
+        let paths: Result<Vec<_>, _> = files.map(|file| file.map(|file| file.path())).collect();
+        let mut paths = paths.map_err(failed)?;
+        paths.sort();
+        if paths.is_empty() {
+            return Err(format!("FAILED: no stored scripts in {}", folder.display()));
+        }
+        for path in paths {
+            scripts.push(std::fs::read(path).map_err(failed)?);
         }
     }
     Ok(scripts)

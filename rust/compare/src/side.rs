@@ -4,7 +4,7 @@ use crate::core;
 use independent::calls;
 
 type Start = fn(u32, u32, u32, u32, &mut [u8], &mut [u8]) -> u32;
-type Deliver = fn(&mut [u8], &mut [u8], &[u8], &mut [u8], &mut u32) -> u32;
+pub type Deliver = fn(&mut [u8], &mut [u8], &[u8], &mut [u8], &mut u32) -> u32;
 
 #[derive(Clone, Copy)]
 pub struct Side {

@@ -18,12 +18,14 @@ fn delivers(contents: &Contents, wanted: &str, side: &Side) -> bool {
 }
 
 /// Contents for each branch of a delivery, found on that side.
-pub fn bases(side: &Side, random: &mut Random) -> Vec<Contents> {
+pub fn bases(side: &Side, random: &mut Random) -> Result<Vec<Contents>, String> {
     let mut find = |wanted: &str| {
         let mut tries = (0..1_000_000).map(|_| Scene::new(random).contents(random));
-        tries.find(|contents| delivers(contents, wanted, side))
+        tries
+            .find(|contents| delivers(contents, wanted, side))
+            .ok_or_else(|| format!("FAILED: no delivery found for the branch {wanted}"))
     };
-    BRANCHES.iter().filter_map(|wanted| find(wanted)).collect()
+    BRANCHES.iter().map(|wanted| find(wanted)).collect()
 }
 
 /// Every byte of a delivery, with every value.

@@ -8,6 +8,9 @@ use std::fmt::{Display, Formatter, LowerHex, Result as Written};
 
 const NAMES: [&str; 4] = ["log", "image", "message", "out"];
 
+/// Of a longer part no more items are written.
+const MOST_ITEMS: usize = 200;
+
 /// Why a call, or a history, is not as it should be.
 #[derive(Clone, Debug)]
 pub enum Trouble {
@@ -35,7 +38,11 @@ pub struct Difference {
 
 /// Both sides do the same; and a number other than those the entry has, or a refusal that changes something, is trouble too.
 pub fn agreed(pair: &Pair, call: &Call) -> Result<Answer, Trouble> {
-    let answers = [call.on(&pair.0), call.on(&pair.1)];
+    judged(pair, call, [call.on(&pair.0), call.on(&pair.1)])
+}
+
+/// The same of answers already there.
+pub fn judged(pair: &Pair, call: &Call, answers: [Answer; 2]) -> Result<Answer, Trouble> {
     let same = answers[0] == answers[1];
     let known = call.entry.answers().contains(&answers[0].number);
     let kept = answers[0].number == ACCEPTED || answers[0].after == call.refused();
@@ -69,8 +76,11 @@ fn write_parts<T: Copy + LowerHex>(
     write!(to, "\n    {name}, length {}:", lent.slice().len())?;
     for (part, bar) in lent.parts().into_iter().zip(["", " |", " |"]) {
         write!(to, "{bar}")?;
-        for item in part.iter().take(200) {
+        for item in part.iter().take(MOST_ITEMS) {
             write!(to, " {item:0width$x}")?;
+        }
+        if part.len() > MOST_ITEMS {
+            write!(to, " ... ({} more, cut here)", part.len() - MOST_ITEMS)?;
         }
     }
     Ok(())

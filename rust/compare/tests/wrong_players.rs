@@ -1,17 +1,19 @@
 //! The comparison of listings can fail: players with one wrong behaviour are found, and the script is shrunk.
 
-use compare::program::Feed;
+use compare::program::{printed, Failure, Feed};
 use compare::random::Random;
 use compare::scripts::{run, Player, Players};
 use independent::bench::listing;
+use std::cell::Cell;
+use std::path::Path;
 
-fn right(script: &[u8], _: Feed) -> Result<Vec<u8>, String> {
+fn right(script: &[u8], _: Feed) -> Result<Vec<u8>, Failure> {
     Ok(listing(script))
 }
 
 /// The listing with a text replaced wherever it stands.
-fn replaced(script: &[u8], from: &str, to: &str) -> Result<Vec<u8>, String> {
-    let text = String::from_utf8(listing(script)).map_err(|error| error.to_string())?;
+fn replaced(script: &[u8], from: &str, to: &str) -> Result<Vec<u8>, Failure> {
+    let text = String::from_utf8(listing(script)).expect("a listing is text");
     Ok(text.replace(from, to).into_bytes())
 }
 
@@ -98,7 +100,7 @@ fn a_player_that_minds_pieces_is_found() {
 fn a_player_that_fails_is_found() {
     let found = report(&|script, _| {
         if script.contains(&0) {
-            Err("it stopped".to_string())
+            Err(Failure::Other("it stopped".to_string()))
         } else {
             Ok(listing(script))
         }
@@ -112,4 +114,47 @@ fn what_is_never_reached_is_a_failure() {
     let never = |script: &[u8], _: Feed| replaced(script, ",10,-,-", ",9,-,-");
     let found = run(&Players(&never, &never), 10, &mut Random::new(1)).unwrap_err();
     assert!(found.contains("never reached: number 10"), "{found}");
+}
+
+/// It is not played again on smaller scripts.
+#[test]
+fn a_player_that_hangs_is_found_at_once() {
+    let hung = Cell::new(0);
+    let found = report(&|script, _| {
+        if script.ends_with(b"\n") {
+            hung.set(hung.get() + 1);
+            return Err(Failure::Hangs("it hangs".to_string()));
+        }
+        Ok(listing(script))
+    });
+    assert!(found.contains("it hangs; the script"), "{found}");
+    assert_eq!(hung.get(), 1);
+}
+
+/// Of long listings only the lines around the first difference are shown.
+#[test]
+fn a_long_report_is_cut() {
+    let wrong = |script: &[u8], _: Feed| {
+        let mut text = listing(script);
+        if text.len() > 20_000 {
+            text[10_000] ^= 1;
+        }
+        Ok(text)
+    };
+    let found = report(&wrong);
+    assert!(found.contains("at byte 10000 of the listing"), "{found}");
+    assert!(found.lines().count() < 200, "{found}");
+}
+
+#[test]
+fn a_program_must_end_well_and_without_complaint() {
+    let shell = |script: &str| printed(Path::new("/bin/sh"), script.as_bytes(), Feed::Whole);
+    assert_eq!(shell("echo yes").unwrap(), b"yes\n");
+    let complaint = shell("echo yes; echo no >&2").unwrap_err().to_string();
+    assert!(
+        complaint.ends_with("standard error: \"no\\n\""),
+        "{complaint}"
+    );
+    let status = shell("echo yes; exit 3").unwrap_err().to_string();
+    assert!(status.contains("exit status: 3"), "{status}");
 }

@@ -1,6 +1,6 @@
 //! Every comparison of calls and histories can fail: sides with one wrong behaviour are found, and the case is shrunk.
 
-use compare::call::{Call, ENTRIES};
+use compare::call::{Call, Entry, ENTRIES};
 use compare::demand3;
 use compare::differential::{self, Amount};
 use compare::format::*;
@@ -8,7 +8,7 @@ use compare::histories;
 use compare::history::Tally;
 use compare::last_rounds;
 use compare::random::Random;
-use compare::side::{Pair, Side, INDEPENDENT};
+use compare::side::{Deliver, Pair, Side, INDEPENDENT};
 use compare::world::Setting;
 use independent::calls;
 
@@ -24,13 +24,7 @@ fn count(image: &[u8], marks: Field) -> u32 {
 }
 
 /// R's majority counted against n, as the source's listing has it, and not against the quorum gathered.
-fn majority_of_n(
-    log: &mut [u8],
-    image: &mut [u8],
-    message: &[u8],
-    out: &mut [u8],
-    decision: &mut u32,
-) -> u32 {
+const MAJORITY_OF_N: Deliver = |log, image, message, out, decision| {
     let old = before(log, image);
     let number = calls::deliver(log, image, message, out, decision);
     if let (Some((_, old)), ACCEPTED, b'S') = (old, number, message.first().copied().unwrap_or(0)) {
@@ -49,16 +43,10 @@ fn majority_of_n(
         }
     }
     number
-}
+};
 
 /// One CHECK or SECOND too few makes a quorum: the last one counts again, as if another unit had sent it.
-fn quorum_too_low(
-    log: &mut [u8],
-    image: &mut [u8],
-    message: &[u8],
-    out: &mut [u8],
-    decision: &mut u32,
-) -> u32 {
+const QUORUM_TOO_LOW: Deliver = |log, image, message, out, decision| {
     let number = calls::deliver(log, image, message, out, decision);
     if number != ACCEPTED || !matches!(message[0], b'C' | b'S') {
         return number;
@@ -77,24 +65,17 @@ fn quorum_too_low(
         return calls::deliver(log, image, &other, out, decision);
     }
     number
-}
+};
 
-fn other_before_malformed(
-    log: &mut [u8],
-    image: &mut [u8],
-    message: &[u8],
-    out: &mut [u8],
-    decision: &mut u32,
-) -> u32 {
-    match calls::deliver(log, image, message, out, decision) {
+const OTHER_BEFORE_MALFORMED: Deliver =
+    |log, image, message, out, decision| match calls::deliver(log, image, message, out, decision) {
         MALFORMED_MESSAGE
             if message[1] != log[0] || message[2] != log[1] || message[6..8] != log[4..6] =>
         {
             NOT_FOR_UNIT
         }
         number => number,
-    }
-}
+    };
 
 fn out_not_zeroed(log: &[u8], image: &mut [u8], mileage: u32, out: &mut [u8]) -> u32 {
     let old = out.to_vec();
@@ -114,47 +95,34 @@ fn key_on_keeps_marks(log: &[u8], image: &mut [u8]) -> u32 {
     number
 }
 
-fn check_quorum_not_logged(
-    log: &mut [u8],
-    image: &mut [u8],
-    message: &[u8],
-    out: &mut [u8],
-    decision: &mut u32,
-) -> u32 {
+const CHECK_QUORUM_NOT_LOGGED: Deliver = |log, image, message, out, decision| {
     let old = log.to_vec();
     let number = calls::deliver(log, image, message, out, decision);
     if number == ACCEPTED && message[0] == b'C' {
         log.copy_from_slice(&old);
     }
     number
-}
+};
 
-fn seven_not_answered(
-    log: &mut [u8],
-    image: &mut [u8],
-    message: &[u8],
-    out: &mut [u8],
-    decision: &mut u32,
-) -> u32 {
-    match calls::deliver(log, image, message, out, decision) {
+const SEVEN_NOT_ANSWERED: Deliver =
+    |log, image, message, out, decision| match calls::deliver(log, image, message, out, decision) {
         LAST_ROUND => ACCEPTED,
         number => number,
-    }
-}
+    };
 
-fn decision_one_more(
-    log: &mut [u8],
-    image: &mut [u8],
-    message: &[u8],
-    out: &mut [u8],
-    decision: &mut u32,
-) -> u32 {
+const DECISION_ONE_MORE: Deliver = |log, image, message, out, decision| {
     let number = calls::deliver(log, image, message, out, decision);
     if *decision != BLANK {
         *decision += 1;
     }
     number
-}
+};
+
+const NEVER_DECIDES: Deliver = |log, image, message, out, decision| {
+    let number = calls::deliver(log, image, message, out, decision);
+    *decision = BLANK;
+    number
+};
 
 fn log_too_long(log: &[u8], fields: &mut [u32]) -> u32 {
     calls::read_log(&log[..log.len().min(LOG_LENGTH)], fields)
@@ -199,16 +167,29 @@ fn failed(result: Result<String, String>) -> String {
     report
 }
 
+const FEW: Amount = Amount {
+    calls: 100_000,
+    swept: 0,
+    mileages: false,
+};
+
 fn calls_report(pair: Pair) -> String {
-    let amount = Amount {
-        calls: 100_000,
-        swept: 0,
-    };
-    failed(differential::run(&pair, &amount, &mut Random::new(1)))
+    failed(differential::run(&pair, &FEW, &mut Random::new(1)))
 }
 
 fn histories_report(pair: Pair) -> String {
     failed(histories::run(&pair, 2_000, &mut Random::new(1)))
+}
+
+/// The comparison of calls finds the side, and says so.
+fn assert_found(pair: Pair, words: &[&str]) {
+    assert_has(&calls_report(pair), words);
+}
+
+/// It finds that the side differs from the right one in this entry.
+fn assert_differs(change: impl Fn(&mut Side), entry: &str) {
+    let differ = format!("the sides differ: {entry}");
+    assert_found(against_right(change), &["shrunk", &differ]);
 }
 
 fn assert_has(report: &str, words: &[&str]) {
@@ -233,29 +214,22 @@ fn assert_events(report: &str, most: usize) {
 #[test]
 fn the_right_side_agrees_with_itself() {
     let pair = Pair(INDEPENDENT, INDEPENDENT);
-    let amount = Amount {
-        calls: 100_000,
-        swept: 0,
-    };
-    differential::run(&pair, &amount, &mut Random::new(1)).unwrap();
+    differential::run(&pair, &FEW, &mut Random::new(1)).unwrap();
     histories::run(&pair, 2_000, &mut Random::new(1)).unwrap();
     last_rounds::run(&pair, 100, &mut Random::new(1)).unwrap();
 }
 
 #[test]
 fn a_majority_of_n_is_found() {
-    let change = |side: &mut Side| side.deliver = majority_of_n;
-    assert_has(
-        &calls_report(against_right(change)),
-        &["shrunk", "the sides differ: deliver"],
-    );
+    let change = |side: &mut Side| side.deliver = MAJORITY_OF_N;
+    assert_differs(change, "deliver");
     assert_events(&histories_report(against_right(change)), 30);
 }
 
 /// As the scope paper says where it reads the source: at n = 4 the listing's majority loses a decision.
 #[test]
 fn a_majority_of_n_breaks_demand_3() {
-    let pair = against_itself(|side| side.deliver = majority_of_n);
+    let pair = against_itself(|side| side.deliver = MAJORITY_OF_N);
     let setting = Setting {
         engine: b'R',
         n: 4,
@@ -271,17 +245,14 @@ fn a_majority_of_n_breaks_demand_3() {
 
 #[test]
 fn a_quorum_too_low_is_found() {
-    let change = |side: &mut Side| side.deliver = quorum_too_low;
-    assert_has(
-        &calls_report(against_right(change)),
-        &["shrunk", "the sides differ: deliver"],
-    );
+    let change = |side: &mut Side| side.deliver = QUORUM_TOO_LOW;
+    assert_differs(change, "deliver");
     assert_events(&histories_report(against_right(change)), 6);
 }
 
 #[test]
 fn a_quorum_too_low_breaks_demand_3() {
-    let report = histories_report(against_itself(|side| side.deliver = quorum_too_low));
+    let report = histories_report(against_itself(|side| side.deliver = QUORUM_TOO_LOW));
     assert!(
         report.contains(demand3::DIFFER) || report.contains(demand3::OTHER_PROPOSAL),
         "{report}"
@@ -291,16 +262,15 @@ fn a_quorum_too_low_breaks_demand_3() {
 
 #[test]
 fn a_decision_never_proposed_breaks_demand_3() {
-    let report = histories_report(against_itself(|side| side.deliver = decision_one_more));
+    let report = histories_report(against_itself(|side| side.deliver = DECISION_ONE_MORE));
     assert_has(&report, &[demand3::NOT_PROPOSED]);
     assert_events(&report, 12);
 }
 
 #[test]
 fn another_order_of_refusals_is_found() {
-    let report = calls_report(against_right(|side| side.deliver = other_before_malformed));
-    assert_has(
-        &report,
+    assert_found(
+        against_right(|side| side.deliver = OTHER_BEFORE_MALFORMED),
         &["shrunk", "wrong: number 5", "independent: number 4"],
     );
 }
@@ -308,35 +278,28 @@ fn another_order_of_refusals_is_found() {
 #[test]
 fn an_output_buffer_not_zeroed_is_found() {
     let change = |side: &mut Side| side.propose = out_not_zeroed;
-    assert_has(
-        &calls_report(against_right(change)),
-        &["shrunk", "the sides differ: propose"],
-    );
-    assert_has(
-        &calls_report(against_itself(change)),
+    assert_differs(change, "propose");
+    assert_found(
+        against_itself(change),
         &["a refusal changed something: propose"],
     );
 }
 
 #[test]
 fn marks_kept_at_key_on_are_found() {
-    let report = calls_report(against_right(|side| side.key_on = key_on_keeps_marks));
-    assert_has(&report, &["shrunk", "the sides differ: key_on"]);
+    assert_differs(|side| side.key_on = key_on_keeps_marks, "key_on");
 }
 
 #[test]
 fn a_missing_log_write_is_found() {
-    let change = |side: &mut Side| side.deliver = check_quorum_not_logged;
-    assert_has(
-        &calls_report(against_right(change)),
-        &["shrunk", "the sides differ: deliver"],
-    );
+    let change = |side: &mut Side| side.deliver = CHECK_QUORUM_NOT_LOGGED;
+    assert_differs(change, "deliver");
     assert_events(&histories_report(against_right(change)), 6);
 }
 
 #[test]
 fn a_missing_seven_is_found() {
-    let change = |side: &mut Side| side.deliver = seven_not_answered;
+    let change = |side: &mut Side| side.deliver = SEVEN_NOT_ANSWERED;
     let rounds = |pair: Pair| {
         last_rounds::run(&pair, 100, &mut Random::new(1)).expect_err("the wrong side is found")
     };
@@ -345,33 +308,58 @@ fn a_missing_seven_is_found() {
         &["wrong: number 0", "independent: number 7"],
     );
     assert_has(&rounds(against_itself(change)), &["7 wanted, 0 given"]);
-    assert_has(
-        &calls_report(against_itself(change)),
+    assert_found(
+        against_itself(change),
         &["never reached: number 7 of deliver"],
     );
 }
 
 #[test]
+fn a_branch_never_found_is_a_failure() {
+    assert_found(
+        against_itself(|side| side.deliver = NEVER_DECIDES),
+        &["no delivery found for the branch BS=d"],
+    );
+}
+
+#[test]
 fn wrong_readings_and_writings_are_found() {
-    assert_has(
-        &calls_report(against_right(|side| side.read_log = log_too_long)),
-        &["shrunk", "the sides differ: read_log"],
-    );
-    assert_has(
-        &calls_report(against_right(|side| side.write_log = unit_not_below_n)),
-        &["shrunk", "the sides differ: write_log"],
-    );
-    assert_has(
-        &calls_report(against_itself(|side| side.write_log = writes_another_round)),
+    assert_differs(|side| side.read_log = log_too_long, "read_log");
+    assert_differs(|side| side.write_log = unit_not_below_n, "write_log");
+    assert_found(
+        against_itself(|side| side.write_log = writes_another_round),
         &["the way back gives something else"],
     );
 }
 
-/// Two calls with the same slices and other guards are not the same.
+#[test]
+fn one_mileage_refused_is_found() {
+    fn refuses_one(log: &[u8], image: &mut [u8], mileage: u32, out: &mut [u8]) -> u32 {
+        let other = if mileage == 1_234_567 { BLANK } else { mileage };
+        calls::propose(log, image, other, out)
+    }
+    let amount = Amount {
+        calls: 0,
+        mileages: true,
+        ..FEW
+    };
+    let change = |side: &mut Side| side.propose = refuses_one;
+    let run = |pair: Pair| failed(differential::run(&pair, &amount, &mut Random::new(1)));
+    assert_has(
+        &run(against_right(change)),
+        &["shrunk", "propose", "numbers [1234567", "wrong: number 6"],
+    );
+    assert_has(
+        &run(against_itself(change)),
+        &["9999999 mileages are accepted"],
+    );
+}
+
+/// Two calls with the same slices and other guards are not the same. Their buffers begin alike, as 9 is 1 and 8.
 #[test]
 fn a_write_outside_is_seen() {
     for entry in ENTRIES {
-        let (mut one, mut other) = (Call::new(entry, 1), Call::new(entry, 2));
+        let (mut one, mut other) = (Call::new(entry, 1), Call::new(entry, 9));
         other.decision = one.decision;
         for buffer in entry.buffers() {
             for at in 0..entry.lengths()[buffer] {
@@ -385,13 +373,25 @@ fn a_write_outside_is_seen() {
 }
 
 #[test]
+fn buffers_begin_at_every_address() {
+    for buffer in 0..4 {
+        let begin = |filler| {
+            Call::new(Entry::Deliver, filler).bytes[buffer]
+                .slice()
+                .as_ptr() as usize
+                % 8
+        };
+        let mut begins: Vec<usize> = (0..8).map(begin).collect();
+        begins.sort_unstable();
+        assert_eq!(begins, [0, 1, 2, 3, 4, 5, 6, 7]);
+    }
+}
+
+#[test]
 fn a_panic_is_found() {
     fn panics(log: &[u8], image: &mut [u8]) -> u32 {
         assert!(log.len() < 300, "too long");
         calls::key_on(log, image)
     }
-    assert_has(
-        &calls_report(against_right(|side| side.key_on = panics)),
-        &["shrunk", "the sides differ: key_on"],
-    );
+    assert_differs(|side| side.key_on = panics, "key_on");
 }

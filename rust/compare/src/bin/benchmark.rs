@@ -4,7 +4,7 @@
 use compare::cases::{all, Case, Room};
 use compare::made::longest;
 use compare::places;
-use compare::program::{printed, Feed};
+use compare::program::{printed, Failure, Feed};
 use compare::random::Random;
 use compare::side::{Side, CORE, INDEPENDENT};
 use std::path::Path;
@@ -60,7 +60,7 @@ fn calls_table() -> Result<(), String> {
         "case-engine-n", "core", "independent", "ratio"
     );
     let mut copying = Vec::new();
-    for case in all() {
+    for case in all()? {
         let numbers = [case.number(&CORE), case.number(&INDEPENDENT)];
         if numbers != [0, 0] {
             return Err(format!("{} is not accepted: {numbers:?}", case.name));
@@ -74,17 +74,23 @@ fn calls_table() -> Result<(), String> {
 }
 
 fn time_processes(program: &Path, player: &Path, script: &[u8]) -> Result<Vec<f64>, String> {
-    let mut failed = Ok(());
-    let run = |path: &Path| printed(path, script, Feed::Whole).map(drop);
-    let (mut core, mut independent) = (Ok(()), Ok(()));
+    // The first failure stays, and after it there are no more runs.
+    let run = |path: &Path, failure: &mut Option<Failure>| {
+        if failure.is_none() {
+            *failure = printed(path, script, Feed::Whole).err();
+        }
+    };
+    let (mut core, mut independent) = (None, None);
     let times = medians(
         PROCESSES,
-        &mut [&mut || core = run(program), &mut || {
-            independent = run(player)
+        &mut [&mut || run(program, &mut core), &mut || {
+            run(player, &mut independent)
         }],
     );
-    failed = failed.and(core).and(independent);
-    failed.map(|()| times)
+    match core.or(independent) {
+        None => Ok(times),
+        Some(failure) => Err(failure.to_string()),
+    }
 }
 
 fn bench_table() -> Result<(), String> {
@@ -150,7 +156,7 @@ fn count(words: &[String]) -> Result<(), String> {
         _ => return Err(USAGE.to_string()),
     };
     let calls = calls.parse().map_err(|_| USAGE.to_string())?;
-    let cases = all();
+    let cases = all()?;
     let found = cases.iter().find(|one| one.name == *case);
     let names = || {
         cases

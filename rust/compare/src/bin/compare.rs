@@ -95,6 +95,7 @@ fn run() -> Result<(), String> {
     let amount = differential::Amount {
         calls: 3_000_000 * times,
         swept: 10 * times as usize,
+        mileages: true,
     };
     part("differential", seed, |random| {
         differential::run(&BOTH, &amount, random)
