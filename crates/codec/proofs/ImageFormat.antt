@@ -3,14 +3,15 @@ use mathlib.Core.Path.{_≡_, refl, sym, ap, ap₂, _∙_}
 use mathlib.Core.Bool.{Bool, true, false}
 use mathlib.Core.List.{List, [], _∷_, _++_, map}
 use mathlib.Core.Option.{some}
-use Prim.Native.Nat.{ℕ, suc, _+_, _<_}
+use Prim.Native.Nat.{ℕ, zero, suc, _+_, _<_}
 use native.Mathlib.Omega.{arith}
-use lib.ListN.{length, getD, take, drop, replicate, length-append, length-drop, length-map, take-append-drop}
+use lib.ListN.{length, getD, set, take, drop, replicate, length-append, length-drop, length-map, take-append-drop}
 use lib.Seq.{take-at, drop-at, getD-take, length-take-le}
 use Rattle.tally.specs.Limits.{Limits, today, logSize, imageSize, logFields, senders, Sane}
 use Rattle.tally.specs.Tally.{Typed, blankCell, isMarked, placed}
 use Rattle.tally.specs.declared.Cell.{Cell}
 use Rattle.tally.specs.declared.Engine.{Engine}
+use Rattle.tally.specs.declared.Estimate.{Estimate}
 use Rattle.tally.specs.declared.Tally.{Tally}
 use Rattle.tally.specs.Refusal.{numberOf}
 use Rattle.tally.specs.declared.Refusal.{Refusal}
@@ -33,7 +34,7 @@ use Rattle.codec.proofs.LogFormat as log
 use Rattle.codec.proofs.RoundTrips.{Lawful, round-trip, read-parsed}
 use Rattle.codec.proofs.Rows.{Fit, num-fits, fit-append, packInto-append, packInto-eq}
 
-length-tally : (t : Tally) → length (t .cells) ≡ senders → length (tallyNumbers t) ≡ length tallyWidths
+pub length-tally : (t : Tally) → length (t .cells) ≡ senders → length (tallyNumbers t) ≡ length tallyWidths
 length-tally t e = ap suc (length-map (t .cells) cellCode ∙ e)
 
 -- a log and two tallies stored one after the other, from the front to the end, are an image's bytes
@@ -76,7 +77,7 @@ numbers-image e vs len p =
     ∙ take-append-drop logFields vs
 
 module _ (l : Limits) (sane : Sane l) where
-  AllKnown : List Cell → Type 0
+  pub AllKnown : List Cell → Type 0
   AllKnown cs = (s : ℕ) → s < length cs → Known l (getD cs s blankCell .estimate)
 
   later : (c : Cell) (cs : List Cell) → AllKnown (c ∷ cs) → AllKnown cs
@@ -93,15 +94,24 @@ module _ (l : Limits) (sane : Sane l) where
   cells-fit [] k = tt
   cells-fit (c ∷ cs) k = (code-fits l sane (c .estimate) (k 0 (omega arith)), cells-fit cs (later c cs k))
 
-  module _ (split : Bool) (g : Engine) (n : ℕ) (t : Tally) (f : TallyFacts l split g n t) (typed : Typed t) where
-    known : AllKnown (t .cells)
-    unfolding AllKnown
-    known s h = let b : s < senders = omega (arith, typed .cells) in known-place l split n s (isMarked (t .marks) s) (placed t s) (f .places s b)
+  pub known-cells : (split : Bool) (g : Engine) (n : ℕ) (t : Tally) → TallyFacts l split g n t → Typed t → AllKnown (t .cells)
+  unfolding AllKnown
+  known-cells split g n t f typed s h =
+      let b : s < senders = omega (arith, typed .cells) in known-place l split n s (isMarked (t .marks) s) (placed t s) (f .places s b)
 
-    tally-back : tallyOf (tallyNumbers t) ≡ t
+  pub known-set : (cs : List Cell) (k : ℕ) (e : Estimate) → AllKnown cs → Known l e → AllKnown (set cs k (record { estimate = e }))
+  unfolding AllKnown
+  known-set [] k e a b s h = a s h
+  known-set (c ∷ cs) zero e a b zero h = b
+  known-set (c ∷ cs) zero e a b (suc s) h = a (suc s) h
+  known-set (c ∷ cs) (suc k) e a b zero h = a 0 (omega arith)
+  known-set (c ∷ cs) (suc k) e a b (suc s) h = known-set cs k e (later c cs a) b s (omega arith)
+
+  module _ (t : Tally) (typed : Typed t) (known : AllKnown (t .cells)) where
+    pub tally-back : tallyOf (tallyNumbers t) ≡ t
     tally-back = rw (cells-codes (t .cells) known)
 
-    tally-fit : Fit tallyWidths (tallyNumbers t)
+    pub tally-fit : Fit tallyWidths (tallyNumbers t)
     tally-fit = (omega (arith, typed .marks), rw (typed .cells) at (cells-fit (t .cells) known))
 
   parsed : (i : Image) → TypedImage i → imageOk l i ≡ true → parseImage (imageNumbers i) ≡ some i
@@ -114,8 +124,8 @@ module _ (l : Limits) (sane : Sane l) where
       rw (engine-letter g)
       (ap (λ r. some (withTallies r (tallyOf (take tallyFields (c ++ s))) (tallyOf (drop tallyFields (c ++ s))))) (log.of-numbers l sane (imageLog i) (f .log))
       ∙ ap₂ (λ x y. some (withTallies (imageLog i) x y))
-      (ap tallyOf (take-at c s tallyFields len) ∙ tally-back false g (i .settings .n) (i .checks) (f .checks) (t .0))
-      (ap tallyOf (drop-at c s tallyFields len) ∙ tally-back (isB g) g (i .settings .n) (i .seconds) (f .seconds) (t .1)))
+      (ap tallyOf (take-at c s tallyFields len) ∙ tally-back (i .checks) (t .0) (known-cells false g (i .settings .n) (i .checks) (f .checks) (t .0)))
+      (ap tallyOf (drop-at c s tallyFields len) ∙ tally-back (i .seconds) (t .1) (known-cells (isB g) g (i .settings .n) (i .seconds) (f .seconds) (t .1))))
 
   fits : (i : Image) → TypedImage i → imageOk l i ≡ true → Fit (imageWidths l) (withZero logZero (imageNumbers i))
   fits i t ok =
@@ -124,8 +134,8 @@ module _ (l : Limits) (sane : Sane l) where
       fit-append (logWidths l) (tallyWidths ++ tallyWidths) (withZero logZero (logNumbers (imageLog i))) (tallyNumbers (i .checks) ++ tallyNumbers (i .seconds))
       (log.fits l sane (imageLog i) (f .log))
       (fit-append tallyWidths tallyWidths (tallyNumbers (i .checks)) (tallyNumbers (i .seconds))
-      (tally-fit false g (i .settings .n) (i .checks) (f .checks) (t .0))
-      (tally-fit (isB g) g (i .settings .n) (i .seconds) (f .seconds) (t .1)))
+      (tally-fit (i .checks) (t .0) (known-cells false g (i .settings .n) (i .checks) (f .checks) (t .0)))
+      (tally-fit (i .seconds) (t .1) (known-cells (isB g) g (i .settings .n) (i .seconds) (f .seconds) (t .1))))
 
   pub lawful : Lawful (imageFormat l) TypedImage
   unfolding imageOk logOk

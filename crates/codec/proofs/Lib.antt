@@ -5,4 +5,5 @@ pub mod Letters
 pub mod LogFormat
 pub mod MessageFormat
 pub mod ImageFormat
+pub mod Places
 pub mod Cleared

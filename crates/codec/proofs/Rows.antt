@@ -6,7 +6,7 @@ use native.Mathlib.Nat.{add-zero, add-assoc, pow-suc}
 use native.Mathlib.Numerals.{add-one}
 use native.Mathlib.Omega.{arith}
 use lib.ListN.{length, getD, take, drop, length-append, length-drop, take-append-drop, drop-of-length-le, replicate}
-use lib.Seq.{sets, sets-eq, take-at, getD-at, getD-drop, take-suc, take-all, drop-drop, length-take-le, length-sets, drop-cons}
+use lib.Seq.{sets, sets-eq, take-at, drop-at, drop-append-le, getD-at, getD-drop, take-suc, take-all, drop-drop, length-take-le, length-sets, drop-cons}
 use Rattle.codec.specs.Numbers.{numAt, bytesOf, Bytes, total, unpack, pack, packInto}
 
 -- each number fits its width, and there is one for each
@@ -54,17 +54,20 @@ bytes-num (suc k) o bs b h =
     let i : bytesOf k n ≡ take k (drop o bs) = bytes-num k o bs b (omega arith) in
     rw (d, m, i, take-suc (drop o bs) k 0 at, getD-drop o bs k 0)
 
-pub unpack-pack : (ws vs p : List ℕ) (o : ℕ) → length p ≡ o → Fit ws vs → unpack o ws (p ++ pack ws vs) ≡ vs
-unpack-pack [] [] p o e h = refl
-unpack-pack [] (v ∷ vs) p o e h = absurd h
-unpack-pack (w ∷ ws) [] p o e h = absurd h
-unpack-pack (w ∷ ws) (v ∷ vs) p o e h =
+pub unpack-part : (ws vs p q : List ℕ) (o : ℕ) → length p ≡ o → Fit ws vs → unpack o ws (p ++ (pack ws vs ++ q)) ≡ vs
+unpack-part [] [] p q o e h = refl
+unpack-part [] (v ∷ vs) p q o e h = absurd h
+unpack-part (w ∷ ws) [] p q o e h = absurd h
+unpack-part (w ∷ ws) (v ∷ vs) p q o e h =
     let b = bytesOf w v in
+    let r = pack ws vs ++ q in
     let len : length (p ++ b) ≡ o + w = simp (length-append, length-bytesOf) (omega arith) in
-    let i : numAt (p ++ (b ++ pack ws vs)) o w ≡ v = num-bytes w v p (pack ws vs) o e (h .0) in
-    let j : unpack (o + w) ws (p ++ (b ++ pack ws vs)) ≡ vs =
-    rw (← append-assoc p b (pack ws vs)) (unpack-pack ws vs (p ++ b) (o + w) len (h .1)) in
-    rw (i, j)
+    let i : numAt (p ++ (b ++ r)) o w ≡ v = num-bytes w v p r o e (h .0) in
+    let j : unpack (o + w) ws (p ++ (b ++ r)) ≡ vs = rw (← append-assoc p b r) (unpack-part ws vs (p ++ b) q (o + w) len (h .1)) in
+    rw (append-assoc b (pack ws vs) q, i, j)
+
+pub unpack-pack : (ws vs p : List ℕ) (o : ℕ) → length p ≡ o → Fit ws vs → unpack o ws (p ++ pack ws vs) ≡ vs
+unpack-pack ws vs p o e h = rw (append-nil (pack ws vs)) at (unpack-part ws vs p [] o e h)
 
 pub pack-unpack : (ws bs : List ℕ) (o : ℕ) → Bytes bs → o + total ws ≡ length bs → pack ws (unpack o ws bs) ≡ drop o bs
 pack-unpack [] bs o b e = let h : length bs ≤ o = omega arith in sym (drop-of-length-le bs h)
@@ -110,6 +113,47 @@ length-pack (w ∷ ws) (v ∷ vs) h = simp (length-append, length-bytesOf, lengt
 pub length-unpack : (o : ℕ) (ws bs : List ℕ) → length (unpack o ws bs) ≡ length ws
 length-unpack o [] bs = refl
 length-unpack o (w ∷ ws) bs = ap suc (length-unpack (o + w) ws bs)
+
+-- ---- a row in the middle of bytes
+
+pub pack-append : (ws ws′ vs vs′ : List ℕ) → length vs ≡ length ws → pack (ws ++ ws′) (vs ++ vs′) ≡ pack ws vs ++ pack ws′ vs′
+pack-append [] ws′ [] vs′ e = refl
+pack-append [] ws′ (v ∷ vs) vs′ e = let z : ⊥ = omega arith in absurd z
+pack-append (w ∷ ws) ws′ [] vs′ e = let z : ⊥ = omega arith in absurd z
+pack-append (w ∷ ws) ws′ (v ∷ vs) vs′ e =
+    rw (pack-append ws ws′ vs vs′ (omega arith)) (sym (append-assoc (bytesOf w v) (pack ws vs) (pack ws′ vs′)))
+
+pub length-packed : (ws vs : List ℕ) → length vs ≡ length ws → length (pack ws vs) ≡ total ws
+length-packed [] vs e = refl
+length-packed (w ∷ ws) [] e = let z : ⊥ = omega arith in absurd z
+length-packed (w ∷ ws) (v ∷ vs) e = simp (length-append, length-bytesOf, length-packed ws vs (omega arith))
+
+-- bytes b stored over the first of a
+pub sets-part : (p a q b : List ℕ) (o : ℕ) → length p ≡ o → length b ≤ length a
+    → sets (p ++ (a ++ q)) o b ≡ (p ++ b) ++ (drop (length b) a ++ q)
+sets-part p a q b o e h =
+    let rest : drop (o + length b) (p ++ (a ++ q)) ≡ drop (length b) a ++ q =
+    sym (drop-drop (length b) o (p ++ (a ++ q))) ∙ ap (drop (length b)) (drop-at p (a ++ q) o e) ∙ drop-append-le (length b) a q h in
+    rw (sets-eq b (p ++ (a ++ q)) o (simp length-append (omega arith)), take-at p (a ++ q) o e, rest)
+
+pub sets-over : (p a q b : List ℕ) (o : ℕ) → length p ≡ o → length b ≡ length a → sets (p ++ (a ++ q)) o b ≡ p ++ (b ++ q)
+sets-over p a q b o e h =
+    let all : length a ≤ length b = omega arith in
+    rw (sets-part p a q b o e (omega arith), drop-of-length-le a all) (append-assoc p b q)
+
+pub packInto-part : (ws vs p a q : List ℕ) (o : ℕ) → length p ≡ o → length a ≡ total ws → length vs ≡ length ws
+    → packInto (p ++ (a ++ q)) o ws vs ≡ p ++ (pack ws vs ++ q)
+packInto-part [] vs p [] q o e n k = refl
+packInto-part [] vs p (x ∷ a) q o e n k = let z : ⊥ = omega arith in absurd z
+packInto-part (w ∷ ws) [] p a q o e n k = let z : ⊥ = omega arith in absurd z
+packInto-part (w ∷ ws) (v ∷ vs) p a q o e n k =
+    let b = bytesOf w v in
+    let lb : length b ≡ w = length-bytesOf w v in
+    let len : length (p ++ b) ≡ o + w = simp (length-append, length-bytesOf) (omega arith) in
+    let left : length (drop (length b) a) ≡ total ws = simp length-drop (omega arith) in
+    rw (sets-part p a q b o e (omega arith))
+    (packInto-part ws vs (p ++ b) (drop (length b) a) q (o + w) len left (omega arith)
+    ∙ simp append-assoc)
 
 -- one turn of a loop over numbers of one width
 pub replicate-step : (n k w : ℕ) → k < n → replicate (n - k) w ≡ w ∷ replicate (n - (k + 1)) w

@@ -1,22 +1,27 @@
 -- The bytes of an image. Assumes nothing.
 use Prim.Native.Nat.{ℕ, _+_}
+use mathlib.Core.Path.{_≡_}
+use mathlib.Core.Bool.{cond, _&&_}
+use lib.Dec.{eqb}
 use mathlib.Core.List.{List, _∷_, _++_, map}
 use mathlib.Core.Option.{Option}
 use lib.ListN.{length, getD, take, drop, replicate}
-use Rattle.tally.specs.Limits.{Limits, imageSize, logFields, senders}
+use Rattle.tally.specs.Limits.{Limits, today, logSize, imageSize, logFields, senders}
 use Rattle.tally.specs.Refusal.{numberOf}
 use Rattle.tally.specs.Tally.{Typed, noMarks}
 use Rattle.tally.specs.declared.Cell.{Cell}
 use Rattle.tally.specs.declared.Engine.{Engine}
 use Rattle.tally.specs.declared.Refusal.{Refusal}
 use Rattle.tally.specs.declared.Tally.{Tally}
-use Rattle.contents.specs.Images.{imageLog, imageOk}
+use Rattle.contents.specs.Images.{imageLog, imageOk, fits}
 use Rattle.contents.specs.declared.Image.{Image}
 use Rattle.contents.specs.declared.Log.{Log}
+use Rattle.contents.specs.declared.State.{State}
 use Rattle.codec.specs.Codes.{engineOf, withEngine, codeOf, estimateOf}
-use Rattle.codec.specs.Formats.{Reading, reading, Wrote, Format, rowNumbers, readBytes, toBytes, writeBytes}
+use Rattle.codec.specs.Formats.{Reading, Wrote, Format, rowNumbers, readBytes, toBytes, writeBytes}
 use Rattle.codec.specs.Logs.{logWidths, logZero, logNumbers, logOf, noLog}
-use Rattle.codec.specs.declared.ImageRead.{ImageRead}
+use Rattle.codec.specs.Numbers.{total, unpack}
+use Rattle.codec.specs.declared.StateRead.{StateRead}
 
 -- what the code's types say of an image
 abbrev pub TypedImage : Image → Type 0
@@ -82,10 +87,6 @@ imageFormat l =
       nothing = noImage;
     }
 
--- the code's answer, as number and contents
-abbrev pub imageReading : ImageRead → Reading Image
-imageReading r = reading (numberOf (r .refusal)) (r .image)
-
 -- the numbers that bytes hold, the zero byte left out
 abbrev pub imageRow : Limits → List ℕ → List ℕ
 imageRow l bs = rowNumbers (imageFormat l) bs
@@ -99,3 +100,33 @@ imageBytes l i = toBytes (imageFormat l) i
 -- a refused image write leaves every byte
 unfoldable pub writeImage : Limits → Image → List ℕ → Wrote
 writeImage l i bs = writeBytes (imageFormat l) i bs bs
+
+-- ---- what functions on an image's bytes promise; the calls' contracts say the same of whole images
+
+-- where the tallies stand, and the tally at a place
+abbrev pub checksAt : ℕ
+checksAt = logSize today
+
+abbrev pub secondsAt : ℕ
+secondsAt = logSize today + total tallyWidths
+
+abbrev pub tallyAt : ℕ → List ℕ → Tally
+tallyAt o bs = tallyOf (unpack o tallyWidths bs)
+
+-- the state of an image that was read and fits the log
+unfoldable pub fitState : Reading Image → Log → StateRead
+fitState r l = cond (eqb (r .number) 0 && fits (r .contents) l) (StateRead.Fits (r .contents .state)) StateRead.Unfit
+
+-- bytes of any image become those of another
+abbrev pub Rewrites : (Image → Image) → List ℕ → List ℕ → Type 0
+Rewrites f before after = (i : Image) → TypedImage i → before ≡ imageBytes today i → after ≡ imageBytes today (f i)
+
+-- an image with one thing replaced
+abbrev pub setState : State → Image → Image
+setState s i = record { settings = i .settings; state = s; checks = i .checks; seconds = i .seconds }
+
+abbrev pub setChecks : Tally → Image → Image
+setChecks t i = record { settings = i .settings; state = i .state; checks = t; seconds = i .seconds }
+
+abbrev pub setSeconds : Tally → Image → Image
+setSeconds t i = record { settings = i .settings; state = i .state; checks = i .checks; seconds = t }

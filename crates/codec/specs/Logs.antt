@@ -13,6 +13,8 @@ use Rattle.tally.specs.declared.Estimate.the-variants.{Blank}
 use Rattle.tally.specs.declared.Refusal.{Refusal}
 use Rattle.contents.specs.Logs.{logOk}
 use Rattle.contents.specs.declared.Log.{Log}
+use Rattle.contents.specs.declared.Settings.{Settings}
+use Rattle.contents.specs.declared.State.{State}
 use Rattle.codec.specs.Codes.{letterOf, engineOf, withEngine, codeOf, estimateOf}
 use Rattle.codec.specs.Formats.{Reading, reading, Wrote, Format, rowNumbers, readBytes, writeBytes}
 use Rattle.codec.specs.declared.EngineRead.{EngineRead}
@@ -90,3 +92,16 @@ writeLog l r bs = writeBytes (logFormat l) r bs bs
 -- the engine of a log or an image, unknown also where the zero byte is not 0
 abbrev pub engineAt : List ℕ → EngineRead
 engineAt bs = cond (eqb (numAt bs logZero 1) 0) (engineOf (numAt bs 0 1)) EngineRead.Unknown
+
+-- a log's settings with the zero, and its state
+abbrev pub settingsWidths : List ℕ
+settingsWidths = 1 ∷ 1 ∷ 1 ∷ 1 ∷ 2 ∷ []
+
+abbrev pub stateWidths : Limits → List ℕ
+stateWidths l = l .roundWidth ∷ 4 ∷ 4 ∷ 4 ∷ []
+
+abbrev pub settingsNumbers : Settings → List ℕ
+settingsNumbers s = letterOf (s .engine) ∷ s .n ∷ s .unit ∷ 0 ∷ s .entry ∷ []
+
+abbrev pub stateNumbers : State → List ℕ
+stateNumbers s = s .round ∷ codeOf (s .proposal) ∷ codeOf (s .first) ∷ codeOf (s .second) ∷ []

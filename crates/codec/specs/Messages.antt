@@ -16,7 +16,7 @@ use Rattle.contents.specs.declared.Kind.{Kind}
 use Rattle.contents.specs.declared.Kind.the-variants.{Empty}
 use Rattle.contents.specs.declared.Message.{Message}
 use Rattle.codec.specs.Codes.{letterOf, engineOf, kindLetter, kindOf, codeOf, estimateOf}
-use Rattle.codec.specs.Formats.{Reading, reading, Wrote, wrote, Format, rowNumbers, readBytes, writeBytes}
+use Rattle.codec.specs.Formats.{Reading, reading, Wrote, Format, rowNumbers, readBytes, writeBytes}
 use Rattle.codec.specs.declared.EngineRead.{EngineRead}
 use Rattle.codec.specs.declared.EngineRead.the-variants.{Is, Unknown}
 use Rattle.codec.specs.declared.KindRead.{KindRead}
@@ -100,6 +100,3 @@ cleared l bs = cond (eqb (length bs) (messageSize l)) (emptyBytes l) bs
 
 unfoldable pub writeMessage : Limits → Message → List ℕ → Wrote
 writeMessage l m bs = writeBytes (messageFormat l) m (cleared l bs) bs
-
-unfoldable pub writeEmpty : Limits → List ℕ → Wrote
-writeEmpty l bs = cond (eqb (length bs) (messageSize l)) (wrote 0 (emptyBytes l)) (wrote (numberOf Refusal.Length) bs)

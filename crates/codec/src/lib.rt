@@ -5,10 +5,10 @@ pub mod logs;
 pub mod messages;
 mod numbers;
 
-use contents::Image;
 use contents::Kind;
 use contents::Log;
 use contents::Message;
+use contents::State;
 use tally::Engine;
 use tally::Refusal;
 
@@ -34,8 +34,8 @@ pub enum MessageRead {
     Refused(Refusal),
 }
 
-// An image holds arrays, so what was read stands beside the refusal.
-pub struct ImageRead {
-    pub refusal: Refusal,
-    pub image: Image,
+// The state of an image that fits its log.
+pub enum StateRead {
+    Fits(State),
+    Unfit,
 }

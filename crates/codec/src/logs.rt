@@ -17,9 +17,10 @@ ghost use Prim.Native.Nat.{_+_, _≤_};
 ghost use lib.ListN.{length};
 ghost use Rattle.tally.specs.Limits.{today, logSize};
 ghost use Rattle.tally.specs.Refusal.{numberOf};
-ghost use Rattle.codec.specs.Numbers.{packInto};
+ghost use Rattle.codec.specs.Numbers.{total, packInto};
 ghost use Rattle.codec.specs.Codes.{codeOf};
 ghost use Rattle.codec.specs.Formats.{withZero, wrote, checked, stored};
+ghost use Rattle.codec.specs.Logs.{settingsWidths, stateWidths, stateNumbers};
 ghost use Rattle.codec.specs.Logs.{logWidths, logZero, engineAt, logOf, logRow, logNumbers, logFormat, logReading, readLog, writeLog};
 
 // Where the fields stand, after the engine letter.
@@ -102,6 +103,18 @@ fn put_three(out: &mut [u8], at: usize, a: Estimate, b: Estimate, c: Estimate)
     numbers::put32(out, at, codes::code_of(a));
     numbers::put32(out, at + 4, codes::code_of(b));
     numbers::put32(out, at + 4 + 4, codes::code_of(c));
+}
+
+// The state of a log or an image.
+pub(crate) fn put_state_at(s: State, out: &mut [u8])
+    requires { ⌜ logSize today ≤ length (now out) ⌝ }
+    ensures { λ _. ⌜ now (out .exit) ≡ packInto (now (out .entry)) (total settingsWidths) (stateWidths today) (stateNumbers s) ⌝ }
+{
+    let proposal = s.proposal;
+    let first = s.first;
+    let second = s.second;
+    numbers::put_round(out, AT_ROUND, s.round);
+    put_three(out, AT_PROPOSAL, proposal, first, second);
 }
 
 pub(crate) fn put_log(log: Log, out: &mut [u8])

@@ -17,7 +17,7 @@ ghost use Rattle.tally.specs.Refusal.{numberOf};
 ghost use Rattle.codec.specs.Numbers.{packInto};
 ghost use Rattle.codec.specs.Formats.{withZero, wrote, checked, stored};
 ghost use Rattle.codec.specs.Messages.{messageWidths, messageZero, messageOf, messageRow, messageNumbers, messageFormat, messageReading, lettersRead};
-ghost use Rattle.codec.specs.Messages.{cleared, readMessage, writeMessage, writeEmpty};
+ghost use Rattle.codec.specs.Messages.{cleared, readMessage, writeMessage};
 
 // Where the fields stand, after the letters of kind and engine.
 const AT_N: usize = 2;
@@ -149,16 +149,5 @@ pub fn write_message(m: Message, out: &mut [u8]) -> Refusal
         return Refusal::Message;
     }
     put_message(m, out);
-    Refusal::None
-}
-
-// The empty message.
-pub fn write_empty(out: &mut [u8]) -> Refusal
-    ensures { λ r. ⌜ wrote (numberOf r) (now (out .exit)) ≡ writeEmpty today (now (out .entry)) ⌝ }
-{
-    clear(out);
-    if out.len() != limits::MESSAGE_SIZE {
-        return Refusal::Length;
-    }
     Refusal::None
 }

@@ -2,7 +2,6 @@
 pub mod methods;
 pub mod step;
 
-use contents::Image;
 use contents::Log;
 use contents::Message;
 use contents::Settings;
@@ -11,7 +10,7 @@ use tally::Estimate;
 use tally::Refusal;
 use tally::Tally;
 ghost use mathlib.Core.Path.{_≡_};
-ghost use Rattle.consensus.specs.Units.{unitLog, unitImage, upUnit, atLog, downUnit};
+ghost use Rattle.consensus.specs.Units.{unitLog, atLog, downUnit};
 
 // A unit is down, or up with estimates.
 pub enum Power {
@@ -45,40 +44,6 @@ impl Unit {
         let settings = self.settings;
         let state = self.logged;
         Log { settings, state }
-    }
-
-    pub fn image(self) -> Image
-        ensures { λ r. ⌜ r ≡ unitImage self ⌝ }
-    {
-        let settings = self.settings;
-        let state = self.current;
-        let checks = self.checks;
-        let seconds = self.seconds;
-        Image {
-            settings,
-            state,
-            checks,
-            seconds,
-        }
-    }
-
-    // The up unit of a log and an image that fits it.
-    pub fn up(log: Log, image: Image) -> Unit
-        ensures { λ r. ⌜ r ≡ upUnit log image ⌝ }
-    {
-        let settings = log.settings;
-        let logged = log.state;
-        let current = image.state;
-        let checks = image.checks;
-        let seconds = image.seconds;
-        Unit {
-            power: Power::Up,
-            settings,
-            logged,
-            current,
-            checks,
-            seconds,
-        }
     }
 
     // A unit at its log's contents, without marks.

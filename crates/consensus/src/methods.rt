@@ -46,7 +46,7 @@ pub fn out_of_range(mileage: u32) -> bool
     !estimates::in_range(mileage)
 }
 
-fn is_second(kind: Kind) -> bool
+pub fn is_second(kind: Kind) -> bool
     ensures { λ r. ⌜ r ≡ isSecond kind ⌝ }
 {
     match kind {

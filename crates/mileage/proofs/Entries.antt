@@ -1,50 +1,43 @@
 -- What the code of the four calls meets on its way: what is refused, and what is stored. Assumes nothing.
 use Prim.Native.Nat.{ℕ, _<_, _^_}
 use mathlib.Core.Path.{_≡_, refl, sym, ap, _∙_}
-use mathlib.Core.Bool.{Bool, true, false, not, cond, _&&_, _||_}
-use mathlib.Core.List.{List, [], _∷_}
+use mathlib.Core.Bool.{Bool, true, false, not, _&&_, _||_}
+use mathlib.Core.List.{List}
 use native.Mathlib.Omega.{arith}
-use lib.Dec.{eqb, ltb}
+use lib.Dec.{ltb}
 use lib.ListN.{length}
-use borrow.Author.Tests.{eq-eqb, eqb-true, lt-ltb, ltb-true, not-false}
+use borrow.Author.Tests.{eqb-true, lt-ltb, ltb-true, not-false}
 use Rattle.tally.specs.Limits.{Limits, Sane, blankCode, logSize, imageSize, messageSize}
 use Rattle.tally.specs.Refusal.{numberOf}
 use Rattle.tally.specs.declared.Refusal.{Refusal}
 use Rattle.tally.proofs.Bounds.{entry-fits, units-fit, everyone-fits}
 use Rattle.tally.proofs.Never.{never}
-use Rattle.contents.specs.Images.{fits}
 use Rattle.contents.specs.Logs.{numbersOk}
 use Rattle.contents.specs.Messages.{messageOk}
 use Rattle.contents.specs.declared.Image.{Image}
-use Rattle.contents.specs.declared.Kind.{Kind}
-use Rattle.contents.specs.declared.Kind.the-variants.{Empty, First, Check, Second, Skip}
 use Rattle.contents.specs.declared.Log.{Log}
 use Rattle.contents.specs.declared.Message.{Message}
 use Rattle.contents.proofs.Facts.{numbers-facts}
 use Rattle.contents.proofs.Tests.{both-true}
 use Rattle.codec.specs.Codes.{engineOf}
 use Rattle.codec.specs.Formats.{reading, stored}
-use Rattle.codec.specs.Images.{imageFormat, imageBytes, readImage}
+use Rattle.codec.specs.Images.{imageFormat, imageBytes}
 use Rattle.codec.specs.Logs.{logFormat, noLog, readLog}
-use Rattle.codec.specs.Messages.{messageFormat, noMessage, readMessage, cleared}
+use Rattle.codec.specs.Messages.{messageFormat, noMessage, readMessage}
 use Rattle.codec.specs.declared.EngineRead.{EngineRead}
 use Rattle.codec.specs.declared.EngineRead.the-variants.{Is, Unknown}
-use Rattle.codec.proofs.Cleared.{length-cleared}
 use Rattle.codec.proofs.Letters.{letter-engine, letter-fits}
 use Rattle.codec.proofs.LogFormat as log
 use Rattle.codec.proofs.MessageFormat as message
 use Rattle.codec.proofs.RoundTrips.{read-fields, refused-number}
 use Rattle.codec.proofs.Steps.{stored-contents}
-use Rattle.consensus.specs.Methods.{forOther, closesLast, unless, deliverRead}
-use Rattle.consensus.specs.Rows.{Row, row, firstOf}
-use Rattle.consensus.specs.Step.{received}
-use Rattle.consensus.specs.Units.{unitLog, unitImage}
-use Rattle.consensus.specs.declared.Answer.{Answer}
-use Rattle.consensus.specs.declared.Unit as U
+use Rattle.consensus.specs.Methods.{forOther, outOfRange, closesLast}
+use Rattle.consensus.specs.Rows.{row, firstOf}
+use Rattle.consensus.specs.Step.{proposed, received}
+use Rattle.consensus.specs.Units.{unitImage}
 use Rattle.consensus.proofs.Answers.{plain-received}
-use Rattle.mileage.specs.Calls.{Called, called, unlessRow, wrongLength, unitLengths, badLog, badSettings, badImage, badMessage, logBytes, messageBytes}
-use Rattle.mileage.specs.Calls.{unitOf, deliverCallRows, deliverCall, settingsNarrow, unfit, unitRows, storedMessage, storedAnswer}
-use Rattle.mileage.proofs.Encoded.{accepted}
+use Rattle.mileage.specs.Calls.{Called, called, answered, wrongLength, unitLengths, badLog, badSettings, badImage, badMessage, logBytes, messageBytes}
+use Rattle.mileage.specs.Calls.{unitOf, proposeCallRows, proposeCall, deliverCallRows, deliverCall, settingsNarrow}
 
 neither : (a b : Bool) → (a || b) ≡ false → (a ≡ false) × (b ≡ false)
 neither false false e = (refl, refl)
@@ -129,42 +122,6 @@ module _ (l : Limits) where
   propose-sizes log image out e =
       let h = neither (unitLengths l log image) _ e in (unit-sizes log image (h .0) .1, size out (messageSize l) (h .1))
 
-  -- ---- what a log and an image hold
-
-  module _ (log image : List ℕ) where
-    -- 3 is the one row left of a log that was read
-    pub log-read : (r : Log) → reading 0 r ≡ readLog l log → unfit (readImage l image) r ≡ firstOf (unitRows l log image)
-    unfolding unfit firstOf badLog badImage
-    log-read r e = rw (← e) (go (eqb (readImage l image .number) 0 && fits (readImage l image .contents) r))
-      where
-        go : (b : Bool) → cond b Refusal.None Refusal.Image ≡ cond (not b) Refusal.Image Refusal.None
-        go true = refl
-        go false = refl
-
-    module _ (k : Refusal) (e : k ≡ firstOf (unitRows l log image)) where
-      -- a call on a unit that is refused, whatever its later rows are
-      pub unit-refused : (out : List ℕ) (wrong : Bool) (more : List Row) (ok : Called) → wrong ≡ false → (numberOf k ≡ 0 → ⊥)
-          → called (numberOf k) log image (cleared l out) blankCode
-          ≡ unlessRow l (row Refusal.Length wrong ∷ row Refusal.Log (badLog l log) ∷ row Refusal.Image (badImage l log image) ∷ more) log image out ok
-      unfolding firstOf
-      unit-refused out wrong more ok w n = rw (w, e) (go (badLog l log) (badImage l log image) (λ z. n (ap numberOf e ∙ z)))
-        where
-          go : (a b : Bool) → (numberOf (firstOf (row Refusal.Log a ∷ row Refusal.Image b ∷ [])) ≡ 0 → ⊥)
-              → called (numberOf (firstOf (row Refusal.Log a ∷ row Refusal.Image b ∷ []))) log image (cleared l out) blankCode
-              ≡ unlessRow l (row Refusal.Log a ∷ row Refusal.Image b ∷ more) log image out ok
-          go true b n = refl
-          go false true n = refl
-          go false false n = absurd (n refl)
-
-      pub unit-accepted : numberOf k ≡ 0 → (badLog l log ≡ false) × (badImage l log image ≡ false)
-      unfolding firstOf
-      unit-accepted z = go (badLog l log) (badImage l log image) (sym (ap numberOf e) ∙ z)
-        where
-          go : (a b : Bool) → numberOf (firstOf (row Refusal.Log a ∷ row Refusal.Image b ∷ [])) ≡ 0 → (a ≡ false) × (b ≡ false)
-          go true b z = absurd (omega arith)
-          go false true z = absurd (omega arith)
-          go false false z = (refl, refl)
-
   -- ---- what is stored
 
   pub log-stored : (r : Log) (bs : List ℕ) → length bs ≡ logSize l → stored (logFormat l) r bs ≡ logBytes l r
@@ -175,45 +132,34 @@ module _ (l : Limits) where
   unfolding imageBytes
   image-stored i bs e = stored-contents (imageFormat l) bs i e
 
-  -- in a buffer that was cleared
-  pub message-stored : (k : Kind) (m : Message) (out : List ℕ) → length out ≡ messageSize l → storedMessage l k m (cleared l out) ≡ messageBytes l k m
-  unfolding storedMessage messageBytes cleared
-  message-stored Empty m out e = rw (eq-eqb (length out) (messageSize l) e)
-  message-stored First m out e = stored-contents (messageFormat l) (cleared l out) m (length-cleared l out ∙ e)
-  message-stored Check m out e = stored-contents (messageFormat l) (cleared l out) m (length-cleared l out ∙ e)
-  message-stored Second m out e = stored-contents (messageFormat l) (cleared l out) m (length-cleared l out ∙ e)
-  message-stored Skip m out e = stored-contents (messageFormat l) (cleared l out) m (length-cleared l out ∙ e)
+  -- ---- a proposal
+
+  -- where no row holds, the call is the proposal's image and message
+  pub propose-stored : (log image out : List ℕ) (v : ℕ) → (unitLengths l log image || wrongLength out (messageSize l)) ≡ false
+      → badLog l log ≡ false → badImage l log image ≡ false → outOfRange l v ≡ false → (image2 out2 : List ℕ)
+      → image2 ≡ imageBytes l (unitImage (proposed (unitOf l log image) v .unit))
+      → out2 ≡ messageBytes l (proposed (unitOf l log image) v .message .kind) (proposed (unitOf l log image) v .message)
+      → called 0 log image2 out2 blankCode ≡ proposeCall l log image v out
+  unfolding proposeCall proposeCallRows firstOf
+  propose-stored log image out v right read fit range image2 out2 i o = rw (right, read, fit, range, i, o)
 
   -- ---- a delivery
 
-  -- where rows 1 to 5 do not hold, the call is the delivery to the unit, stored
+  pub deliver-size : (log image message out : List ℕ)
+      → (unitLengths l log image || wrongLength message (messageSize l) || wrongLength out (messageSize l)) ≡ false → length out ≡ messageSize l
+  deliver-size log image message out e =
+      size out (messageSize l) (neither (unitLengths l log image || wrongLength message (messageSize l)) (wrongLength out (messageSize l)) e .1)
+
+  -- where no row holds, the call is the step's answer
   pub deliver-stored : (log image message out : List ℕ) (m : Message)
       → (unitLengths l log image || wrongLength message (messageSize l) || wrongLength out (messageSize l)) ≡ false
-      → (badLog l log ≡ false) × (badImage l log image ≡ false) → reading 0 m ≡ readMessage l message
-      → forOther (unitOf l log image .settings) m ≡ false
-      → storedAnswer l (deliverRead l (unitOf l log image) m) log image (cleared l out) blankCode ≡ deliverCall l log image message out
-  unfolding deliverCall deliverCallRows firstOf badMessage storedAnswer deliverRead unless
-  deliver-stored log image message out m right read e for = rw (right, read .0, read .1, ← e, for) (go (closesLast l u m))
+      → badLog l log ≡ false → badImage l log image ≡ false → reading 0 m ≡ readMessage l message
+      → forOther (unitOf l log image .settings) m ≡ false → closesLast l (unitOf l log image) m ≡ false
+      → (c : Called) → c ≡ answered l (received (unitOf l log image) m) → c ≡ deliverCall l log image message out
+  unfolding deliverCall deliverCallRows firstOf badMessage
+  deliver-stored log image message out m right read fit e for last c h =
+      rw (right, read, fit, ← e, for, last)
+      (h ∙ ap (λ k. called (numberOf k) (a .log) (a .image) (a .out) (a .decision)) (plain-received (unitOf l log image) m .none))
     where
-      u : U.Unit
-      u = unitOf l log image
-
-      a : Answer
-      a = received u m
-
-      h : ((unitLengths l log image || wrongLength message (messageSize l)) ≡ false) × (wrongLength out (messageSize l) ≡ false)
-      h = neither (unitLengths l log image || wrongLength message (messageSize l)) (wrongLength out (messageSize l)) right
-
-      s : (length log ≡ logSize l) × (length image ≡ imageSize l)
-      s = unit-sizes log image (neither (unitLengths l log image) (wrongLength message (messageSize l)) (h .0) .0)
-
-      go : (b : Bool) → storedAnswer l (unless (row Refusal.LastRound b ∷ []) u a) log image (cleared l out) blankCode
-          ≡ unlessRow l (row Refusal.LastRound b ∷ []) log image out (accepted l a)
-      go true = refl
-      go false =
-          rw (
-            plain-received u m .none,
-            log-stored (unitLog (a .unit)) log (s .0),
-            image-stored (unitImage (a .unit)) image (s .1),
-            message-stored (a .message .kind) (a .message) out (size out (messageSize l) (h .1)),
-          )
+      a : Called
+      a = answered l (received (unitOf l log image) m)

@@ -1,17 +1,14 @@
 -- A step that writes no log leaves the old one whole, and one that changes no image its image: to the last byte. Assumes nothing.
 use Prim.Native.Nat.{ℕ, _<_}
-use mathlib.Core.Path.{_≡_, refl, sym, ap, _∙_}
+use mathlib.Core.Path.{_≡_, refl, ap, _∙_}
 use mathlib.Core.Bool.{Bool, true, false, cond}
 use mathlib.Core.List.{List}
 use lib.Dec.{eqb}
-use borrow.Author.Tests.{eqb-true, eqb-false, not-false}
+use borrow.Author.Tests.{eqb-false, not-false}
 use Rattle.tally.specs.Limits.{Limits, Sane, blankCode}
 use Rattle.tally.specs.Refusal.{numberOf}
 use Rattle.contents.specs.Images.{fits}
-use Rattle.contents.specs.declared.Settings.{Settings}
-use Rattle.contents.proofs.Same.{same-settings}
 use Rattle.contents.proofs.Tests.{both-true}
-use Rattle.codec.specs.Formats.{Reading, reading}
 use Rattle.codec.specs.Images.{imageFormat, readImage, imageBytes}
 use Rattle.codec.specs.Logs.{logFormat, readLog}
 use Rattle.codec.specs.Messages.{readMessage, cleared}
@@ -25,6 +22,7 @@ use Rattle.consensus.specs.Units.{unitLog, unitImage}
 use Rattle.consensus.specs.declared.Answer.{Answer}
 use Rattle.consensus.proofs.Laws.{received-below}
 use Rattle.mileage.specs.Calls.{Called, called, unlessRow, badLog, badImage, logBytes, unitOf, deliverCallRows, deliverCall}
+use Rattle.mileage.proofs.Held.{was-read, fit-image}
 use Rattle.mileage.proofs.Rows.{deliver-refusing}
 
 -- a call whose number is 0 gives its answer
@@ -38,10 +36,6 @@ answers l rows log image out ok = go (eqb (numberOf (firstOf rows)) 0) refl
     go : (b : Bool) → eqb (numberOf (firstOf rows)) 0 ≡ b → cond b ok refused .number ≡ 0 → cond b ok refused ≡ ok
     go true e h = refl
     go false e h = absurd (eqb-false (numberOf (firstOf rows)) 0 e h)
-
--- contents that were read with the number 0
-was-read : {A : Type 0} (r : Reading A) → eqb (r .number) 0 ≡ true → r ≡ reading 0 (r .contents)
-was-read r e = rw (← eqb-true (r .number) 0 e)
 
 module _ (l : Limits) (sane : Sane l) (log image message out : List ℕ) (number : deliverCall l log image message out .number ≡ 0) where
   rows : NoneHolds (deliverCallRows l log image message out)
@@ -57,14 +51,11 @@ module _ (l : Limits) (sane : Sane l) (log image message out : List ℕ) (number
 
   -- the image that was read has the log's settings
   read-image : (eqb (readImage l image .number) 0 ≡ true) × (unitImage (unitOf l log image) ≡ readImage l image .contents)
-  unfolding deliverCallRows badImage fits
+  unfolding deliverCallRows badImage
   read-image =
       let i = readImage l image .contents in
-      let a = both-true (eqb (readImage l image .number) 0) _ (not-false _ (rows .1 .1 .0)) in
-      let same = same-settings (i .settings) (readLog l log .contents .settings) (both-true _ _ (a .1) .0) in (
-        a .0,
-        ap (λ (x : Settings). record { settings = x; state = i .state; checks = i .checks; seconds = i .seconds }) (sym same),
-      )
+      let a = both-true (eqb (readImage l image .number) 0) (fits i (readLog l log .contents)) (not-false _ (rows .1 .1 .0)) in
+      (a .0, fit-image i (readLog l log .contents) (a .1))
 
   pub image-stays : Bytes image → unitImage (received (unitOf l log image) (readMessage l message .contents) .unit) ≡ unitImage (unitOf l log image)
       → deliverCall l log image message out .image ≡ image

@@ -5,11 +5,11 @@ use mathlib.Core.List.{List, [], _∷_}
 use mathlib.Core.Path.{_≡_}
 use lib.Dec.{eqb, ltb}
 use lib.ListN.{length}
-use Rattle.tally.specs.Limits.{Limits, blankCode, logSize, imageSize, messageSize}
+use Rattle.tally.specs.Limits.{Limits, today, blankCode, logSize, imageSize, messageSize}
 use Rattle.tally.specs.Refusal.{numberOf}
 use Rattle.tally.specs.declared.Engine.the-variants.{B}
 use Rattle.tally.specs.declared.Refusal.{Refusal}
-use Rattle.contents.specs.Images.{fits}
+use Rattle.contents.specs.Images.{imageLog, fits}
 use Rattle.contents.specs.Logs.{numbersOk}
 use Rattle.contents.specs.declared.Image.{Image}
 use Rattle.contents.specs.declared.Kind.{Kind}
@@ -19,7 +19,7 @@ use Rattle.contents.specs.declared.Message.{Message}
 use Rattle.contents.specs.declared.Settings.{Settings}
 use Rattle.codec.specs.Codes.{engineOf, codeOf}
 use Rattle.codec.specs.Formats.{Reading, toBytes, stored}
-use Rattle.codec.specs.Images.{imageFormat, readImage, imageBytes}
+use Rattle.codec.specs.Images.{readImage, imageBytes}
 use Rattle.codec.specs.Logs.{logFormat, readLog}
 use Rattle.codec.specs.Messages.{messageFormat, readMessage, emptyBytes, cleared}
 use Rattle.codec.specs.declared.EngineRead.{EngineRead}
@@ -27,7 +27,7 @@ use Rattle.codec.specs.declared.EngineRead.the-variants.{Is, Unknown}
 use Rattle.consensus.specs.Methods.{forOther, outOfRange, closesLast}
 use Rattle.consensus.specs.Rows.{Row, row, firstOf, Lowest}
 use Rattle.consensus.specs.Step.{fresh, recovered, proposed, received}
-use Rattle.consensus.specs.Units.{unitLog, unitImage, upUnit, downUnit}
+use Rattle.consensus.specs.Units.{unitLog, unitImage, upUnit, downUnit, WellFormed}
 use Rattle.consensus.specs.declared.Answer.{Answer}
 use Rattle.consensus.specs.declared.Unit as U
 
@@ -181,26 +181,8 @@ pub record Refusing (l : Limits) (rows : List Row) (log image out : List ℕ) (c
 unfoldable pub settingsNarrow : ℕ → ℕ → ℕ → ℕ → Bool
 settingsNarrow engine n unit entry = ltb engine (256 ^ 1) && ltb n (256 ^ 1) && ltb unit (256 ^ 1) && ltb entry (256 ^ 2)
 
--- none where an image was read and fits the log, else 3
-unfoldable pub unfit : Reading Image → Log → Refusal
-unfit i r = cond (eqb (i .number) 0 && fits (i .contents) r) Refusal.None Refusal.Image
-
--- the rows of a unit's bytes, 2 and 3
-abbrev pub unitRows : Limits → List ℕ → List ℕ → List Row
-unitRows l log image = row Refusal.Log (badLog l log) ∷ row Refusal.Image (badImage l log image) ∷ []
-
--- an empty message leaves the buffer
-unfoldable pub storedMessage : Limits → Kind → Message → List ℕ → List ℕ
-storedMessage l Empty m out = out
-storedMessage l First m out = stored (messageFormat l) m out
-storedMessage l Check m out = stored (messageFormat l) m out
-storedMessage l Second m out = stored (messageFormat l) m out
-storedMessage l Skip m out = stored (messageFormat l) m out
-
--- an answer that refuses nothing is stored; a refusal leaves all as it is
-unfoldable pub storedAnswer : Limits → Answer → List ℕ → List ℕ → List ℕ → ℕ → Called
-storedAnswer l a log image out d =
-    cond (eqb (numberOf (a .refusal)) 0)
-    (called (numberOf (a .refusal)) (stored (logFormat l) (unitLog (a .unit)) log) (stored (imageFormat l) (unitImage (a .unit)) image)
-    (storedMessage l (a .message .kind) (a .message) out) (codeOf (a .decision)))
-    (called (numberOf (a .refusal)) log image out d)
+-- the bytes of a well-formed unit's image, which begins with `front`
+pub record Holds (u : U.Unit) (front : Log) (image : List ℕ) : Type 0 where
+  pub well-formed : WellFormed today u
+  pub begins : imageLog (unitImage u) ≡ front
+  pub bytes : image ≡ imageBytes today (unitImage u)

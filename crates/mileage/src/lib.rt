@@ -1,11 +1,14 @@
 // What a C program links: logs and messages as plain numbers and as bytes, and the four calls of a unit.
 mod calls;
+mod steps;
 
 use codec::EngineRead;
 use codec::LogRead;
 use codec::MessageRead;
+use codec::StateRead;
 use consensus::Unit;
 use consensus::methods;
+use contents::Log;
 use contents::Settings;
 use tally::Refusal;
 use tally::limits;
@@ -15,12 +18,6 @@ ghost use Rattle.tally.specs.Limits.{today, blankCode};
 ghost use Rattle.codec.specs.Formats.{wrote};
 ghost use Rattle.fields.specs.Fields.{readLogCall, writeLogCall, readMessageCall, writeMessageCall};
 ghost use Rattle.mileage.specs.Calls.{called, startCall, keyOnCall, proposeCall, deliverCall};
-
-// What reading a unit finds: a refusal or None, and the unit. A unit holds arrays, so it stands beside the refusal.
-pub(crate) struct UnitRead {
-    refusal: Refusal,
-    unit: Unit,
-}
 
 // Reads a log's eight numbers: engine letter, n, unit, entry, round, proposal, first and second estimate.
 #[no_mangle]
@@ -117,16 +114,17 @@ pub extern "C" fn mileage_propose(log: &[u8], image: &mut [u8], mileage: u32, ou
     if wrong {
         return tally::number(Refusal::Length);
     }
-    let read = calls::read_unit(log, image);
-    let refusal = read.refusal;
-    let number = tally::number(refusal);
-    if number != 0 {
-        return number;
-    }
+    let LogRead::Read(l) = codec::logs::read_log(log) else {
+        return tally::number(Refusal::Log);
+    };
+    let StateRead::Fits(state) = codec::images::state_for(image, l) else {
+        return tally::number(Refusal::Image);
+    };
     if methods::out_of_range(mileage) {
         return tally::number(Refusal::Mileage);
     }
-    calls::put_proposal(read.unit.proposed(mileage), image, out);
+    let settings = l.settings;
+    steps::propose(Log { settings, state }, mileage, image, out);
     tally::number(Refusal::None)
 }
 
@@ -150,17 +148,23 @@ pub extern "C" fn mileage_deliver(
     if wrong {
         return tally::number(Refusal::Length);
     }
-    let read = calls::read_unit(log, image);
-    let refusal = read.refusal;
-    let number = tally::number(refusal);
-    if number != 0 {
-        return number;
-    }
+    let LogRead::Read(l) = codec::logs::read_log(log) else {
+        return tally::number(Refusal::Log);
+    };
+    let StateRead::Fits(state) = codec::images::state_for(image, l) else {
+        return tally::number(Refusal::Image);
+    };
     let MessageRead::Read(m) = codec::messages::read_message(message) else {
         return tally::number(Refusal::Message);
     };
-    if methods::for_other(read.unit.settings, m) {
+    let settings = l.settings;
+    if methods::for_other(settings, m) {
         return tally::number(Refusal::Addressee);
     }
-    calls::put_answer(read.unit.deliver_read(m), log, image, out, decision)
+    let front = Log { settings, state };
+    if steps::closes_last(front, m, image) {
+        return tally::number(Refusal::LastRound);
+    }
+    steps::received(front, m, log, image, out, decision);
+    tally::number(Refusal::None)
 }

@@ -2,7 +2,8 @@
 pub mod limits;
 
 ghost use mathlib.Core.Path.{_≡_};
-ghost use Prim.Native.Nat.{_<_, _≤_, _-_};
+ghost use Prim.Native.Nat.{_<_, _≤_, _-_, _^_};
+ghost use lib.Bits.{bitOr};
 ghost use lib.Count.{ones};
 ghost use Rattle.tally.specs.Limits.{senders};
 ghost use Rattle.tally.specs.Refusal.{numberOf};
@@ -97,6 +98,14 @@ pub fn is_marked(marks: u16, sender: u8) -> bool
     (marks >> sender) % 2 == 1
 }
 
+// The marks with this sender's.
+pub fn with_mark(marks: u16, sender: u8) -> u16
+    requires { ⌜ sender < senders ⌝ }
+    ensures { λ r. ⌜ r ≡ bitOr marks (2 ^ sender) ⌝ }
+{
+    marks | (1 << sender)
+}
+
 // Is it a mileage, whichever?
 pub fn any_mileage(e: Estimate) -> bool
     ensures { λ r. ⌜ r ≡ anyMileage e ⌝ }
@@ -142,7 +151,7 @@ impl Tally {
         let mut cells = self.cells;
         cells[at] = Cell { estimate };
         Tally {
-            marks: self.marks | (1 << sender),
+            marks: with_mark(self.marks, sender),
             cells,
         }
     }

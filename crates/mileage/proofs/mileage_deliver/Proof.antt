@@ -1,74 +1,141 @@
-use mathlib.Core.Path.{sym, ap, _∙_}
+use mathlib.Core.Path.{refl, sym, ap, _∙_}
+use native.Mathlib.Omega.{arith}
 use Rattle.tally.specs.Limits.{today}
 use Rattle.tally.proofs.Bounds.{sane-today}
+use Rattle.codec.specs.Logs.{logReading}
 use Rattle.codec.specs.Messages.{messageReading}
 use Rattle.consensus.specs.Rows.{firstOf}
 use Rattle.mileage.specs.Calls.{badMessage, deliverCallRows, deliverCall}
-use Rattle.mileage.proofs.Entries.{message-refused, message-ok, unit-refused, unit-accepted, deliver-stored}
+use Rattle.mileage.proofs.Entries.{log-refused, message-refused, message-ok, deliver-size, deliver-stored}
+use Rattle.mileage.proofs.Held.{cleared-empty, log-good, log-there, for-read, image-bad, image-good, held}
 use borrow.Author.Needs.{needs}
 use Rattle.mileage.proofs.mileage_deliver.Statement.{statement}
 use Rattle.mileage.proofs.mileage_deliver.Tie as tie
 
 returns-2 : tie.Need-returns-2
-unfolding deliverCall deliverCallRows
+unfolding deliverCall deliverCallRows firstOf
 returns-2 c =
+    let k = c .before .enum-told .given in
     let s = c .before .before .before .before .before in
-    let right = rw (s .before .before .before .before .before .wrong-lengths .ensures) at (s .if1 .left) in
-    let n = c .before .number2 .ensures in
-    rw (n, s .before .before .before .clear .ensures)
-    (unit-refused today _ _ _ (c .before .before .read-unit .ensures .0) _ _ _ _ right (λ z. c .if2 .taken (n ∙ z)))
+    rw (
+      rw (s .before .before .before .before .before .wrong-lengths .ensures) at (s .if1 .left),
+      log-refused today sane-today _ (k .0 .0) (sym (ap logReading (k .1)) ∙ c .before .before .before .read-log .ensures),
+      c .number2 .ensures,
+      s .before .before .before .clear .ensures,
+    )
 
 returns-3 : tie.Need-returns-3
 unfolding deliverCall deliverCallRows firstOf
 returns-3 c =
-    let k = c .before .enum-told .given in
-    let r = c .before .before .before .before .before .before in
-    let s = r .before .before .before in
-    let zero = sym (c .before .before .before .before .before .number2 .ensures) ∙ c .before .before .before .before .if2 .left in
-    let read = unit-accepted today _ _ _ (r .read-unit .ensures .0) zero in
+    let l = c .before .before .before .before .before .before in
+    let s = l .before .before .before .before in
+    let read = sym (ap logReading (l .l .given .1)) ∙ l .before .before .read-log .ensures in
+    let right = rw (s .before .before .before .before .before .wrong-lengths .ensures) at (s .if1 .left) in
     rw (
-      rw (s .before .before .before .before .before .wrong-lengths .ensures) at (s .if1 .left),
-      read .0,
-      read .1,
-      message-refused today sane-today _ (k .0 .0) (sym (ap messageReading (k .1)) ∙ c .before .before .before .read-message .ensures),
+      right,
+      log-good _ _ read,
+      image-bad _ _ _ read (sym (c .before .before .before .state-for .ensures) ∙ c .before .enum-told2 .given .1),
       c .number3 .ensures,
       s .before .before .before .clear .ensures,
     )
 
 returns-4 : tie.Need-returns-4
-unfolding deliverCall deliverCallRows firstOf badMessage
+unfolding deliverCall deliverCallRows firstOf
 returns-4 c =
-    let m = c .before .before .before .before in
-    let r = m .before .before .before .before .before in
-    let s = r .before .before .before in
-    let zero = sym (m .before .before .before .before .number2 .ensures) ∙ m .before .before .before .if2 .left in
-    let read = unit-accepted today _ _ _ (r .read-unit .ensures .0) zero in
-    let other = sym (c .before .before .for-other .ensures) ∙ c .before .if3 .taken in
+    let i = c .before .before .before .before .before in
+    let l = i .before .before .before .before .before in
+    let s = l .before .before .before .before in
+    let read = sym (ap logReading (l .l .given .1)) ∙ l .before .before .read-log .ensures in
+    let right = rw (s .before .before .before .before .before .wrong-lengths .ensures) at (s .if1 .left) in
+    let fit = sym (i .before .before .state-for .ensures) ∙ i .state .given .1 in
+    let k = c .before .enum-told3 .given in
     rw (
-      rw (s .before .before .before .before .before .wrong-lengths .ensures) at (s .if1 .left),
-      read .0,
-      read .1,
-      ← sym (ap messageReading (m .m .given .1)) ∙ m .before .before .read-message .ensures,
-      rw (r .read-unit .ensures .1 zero) at other,
+      right,
+      log-good _ _ read,
+      image-good _ _ _ read _ fit,
+      message-refused today sane-today _ (k .0 .0) (sym (ap messageReading (k .1)) ∙ c .before .before .before .read-message .ensures),
       c .number4 .ensures,
       s .before .before .before .clear .ensures,
     )
 
 returns-5 : tie.Need-returns-5
+unfolding deliverCall deliverCallRows firstOf badMessage
 returns-5 c =
-    let p = c .before .before .before .before .before .before in
-    let f = p .before .before .before .before .before .before in
-    let m = f .before .before .before in
-    let r = m .before .before .before .before .before in
-    let s = r .before .before .before in
-    let zero = sym (m .before .before .before .before .number2 .ensures) ∙ m .before .before .before .if2 .left in
-    let u = r .read-unit .ensures .1 zero in
-    let for = sym (f .before .for-other .ensures) ∙ f .if3 .left in
-    (rw (s .before .before .before .clear .ensures, p .before .before .before .before .before .deliver-read .ensures, u) at (p .put-answer .ensures))
-    ∙ deliver-stored today _ _ _ _ _ (rw (s .before .before .before .before .before .wrong-lengths .ensures) at (s .if1 .left))
-    (unit-accepted today _ _ _ (r .read-unit .ensures .0) zero)
-    (sym (ap messageReading (m .m .given .1)) ∙ m .before .before .read-message .ensures)
-    (rw u at for)
+    let m = c .before .before .before .before .before in
+    let i = m .before .before .before .before in
+    let l = i .before .before .before .before .before in
+    let s = l .before .before .before .before in
+    let read = sym (ap logReading (l .l .given .1)) ∙ l .before .before .read-log .ensures in
+    let right = rw (s .before .before .before .before .before .wrong-lengths .ensures) at (s .if1 .left) in
+    let fit = sym (i .before .before .state-for .ensures) ∙ i .state .given .1 in
+    let there = sym (ap messageReading (m .m .given .1)) ∙ m .before .before .read-message .ensures in
+    rw (
+      right,
+      log-good _ _ read,
+      image-good _ _ _ read _ fit,
+      ← there,
+      ← read,
+      sym (c .before .before .for-other .ensures) ∙ c .before .if2 .taken,
+      c .number5 .ensures,
+      s .before .before .before .clear .ensures,
+    )
+
+returns-6 : tie.Need-returns-6
+unfolding deliverCall deliverCallRows firstOf badMessage
+returns-6 c =
+    let f = c .before .before .before .before in
+    let m = f .before .before .before .before in
+    let i = m .before .before .before .before in
+    let l = i .before .before .before .before .before in
+    let s = l .before .before .before .before in
+    let read = sym (ap logReading (l .l .given .1)) ∙ l .before .before .read-log .ensures in
+    let right = rw (s .before .before .before .before .before .wrong-lengths .ensures) at (s .if1 .left) in
+    let fit = sym (i .before .before .state-for .ensures) ∙ i .state .given .1 in
+    let there = sym (ap messageReading (m .m .given .1)) ∙ m .before .before .read-message .ensures in
+    let known = s .before .before .before .before .before .before .before .before in
+    let h = held _ _ _ read _ fit (λ k. omega (arith, known .before .before .before .slice-known .given k))
+    (λ k. omega (arith, known .before .before .slice-known2 .given k)) in
+    rw (
+      right,
+      log-good _ _ read,
+      image-good _ _ _ read _ fit,
+      ← there,
+      for-read _ _ _ _ read (sym (f .before .for-other .ensures) ∙ f .if2 .left),
+      sym (c .before .before .closes-last .ensures _ h) ∙ c .before .if3 .taken,
+      c .number6 .ensures,
+      s .before .before .before .clear .ensures,
+    )
+
+returns-7 : tie.Need-returns-7
+returns-7 c =
+    let r = c .before .before .before .before .before .before .before in
+    let x = r .before .before .before .before .before in
+    let f = x .before .before .before in
+    let m = f .before .before .before .before in
+    let i = m .before .before .before .before in
+    let l = i .before .before .before .before .before in
+    let s = l .before .before .before .before in
+    let read = sym (ap logReading (l .l .given .1)) ∙ l .before .before .read-log .ensures in
+    let right = rw (s .before .before .before .before .before .wrong-lengths .ensures) at (s .if1 .left) in
+    let fit = sym (i .before .before .state-for .ensures) ∙ i .state .given .1 in
+    let there = sym (ap messageReading (m .m .given .1)) ∙ m .before .before .read-message .ensures in
+    let known = s .before .before .before .before .before .before .before .before in
+    let h = held _ _ _ read _ fit (λ k. omega (arith, known .before .before .before .slice-known .given k))
+    (λ k. omega (arith, known .before .before .slice-known2 .given k)) in
+    let start = known .before .before .before .before .args in
+    let out = cleared-empty _ _ (s .before .before .before .clear .ensures)
+    (deliver-size today (start .log .now) (start .image .now) (start .message .now) (start .out .now) right) in
+    rw (c .number7 .ensures)
+    (deliver-stored today _ _ _ _ _ right (log-good _ _ read) (image-good _ _ _ read _ fit) there
+    (for-read _ _ _ _ read (sym (f .before .for-other .ensures) ∙ f .if2 .left))
+    (sym (x .before .closes-last .ensures _ h) ∙ x .if3 .left) _
+    (r .received .ensures _ h
+    (log-there _ (start .image .now) _ read (λ k. omega (arith, known .before .before .before .slice-known .given k))) out refl))
+
+ok : tie.Need-received-requires
+ok c κs =
+    let m = c .before .before .before .before .before .before .before .before .before .before .before in
+    message-ok today sane-today _ _ (sym (ap messageReading (m .m .given .1)) ∙ m .before .before .read-message .ensures)
 
 pub mileage-deliver-spec : {M : Type 1} → statement M
 unfolding deliverCall deliverCallRows firstOf
@@ -87,6 +154,8 @@ mileage-deliver-spec =
       c .before .before .before .before .clear .ensures,
     ))
     (λ c κs. search needs)
+    (λ c. search needs)
+    (λ c. search needs)
     (λ c κs. search needs)
     (λ c. search needs)
     (λ c. search needs)
@@ -101,17 +170,34 @@ mileage-deliver-spec =
     (λ c. search needs)
     returns-3
     (λ c κs. search needs)
+    (λ c. search needs)
+    (λ c. search needs)
     (λ c κs. search needs)
     (λ c. search needs)
     (λ c. search needs)
     (λ c. search needs)
     returns-4
-    (λ c κs. let m = c .before .before .before in
+    (λ c κs. search needs)
+    (λ c κs. search needs)
+    (λ c. search needs)
+    (λ c. search needs)
+    (λ c. let m = c .before .before .before .before .before .before .before .before .before .before in
+    m .before .before .before .before .before .before .before .before .before .before .before .clear .kept .0)
+    returns-5
+    (λ c κs. let m = c .before .before .before .before .before in
     message-ok today sane-today _ _ (sym (ap messageReading (m .m .given .1)) ∙ m .before .before .read-message .ensures))
     (λ c κs. search needs)
     (λ c. search needs)
     (λ c. search needs)
-    (λ c. let p = c .before .before .before .before .before .before in
-    let s = p .before .before .before .before .before .before .before .before .before .before .before .before .before .before .before .before .before in
-    p .put-answer .kept .1 .1 .1 .0 ∙ s .before .before .before .clear .kept .0)
-    returns-5)
+    (λ c. let m = c .before .before .before .before .before .before .before .before .before .before .before .before in
+    m .before .before .before .before .before .before .before .before .before .before .before .before .clear .kept .0)
+    returns-6
+    ok
+    (λ c κs. search needs)
+    (λ c. search needs)
+    (λ c. search needs)
+    (λ c. let r = c .before .before .before .before .before .before .before in
+    let m = r .before .before .before .before .before .before .before .before .before .before .before .before .before .before in
+    r .received .kept .1 .1 .1 .1 .0
+    ∙ m .before .before .before .before .before .before .before .before .before .before .before .before .before .before .clear .kept .0)
+    returns-7)

@@ -1,33 +1,41 @@
-use mathlib.Core.Path.{sym, _∙_}
+use mathlib.Core.Path.{sym, ap, _∙_}
+use native.Mathlib.Omega.{arith}
+use lib.ListN.{length}
 use Rattle.tally.specs.Limits.{today}
+use Rattle.tally.proofs.Bounds.{sane-today}
+use Rattle.codec.specs.Logs.{logReading}
+use Rattle.codec.proofs.Cleared.{length-cleared}
 use Rattle.consensus.specs.Rows.{firstOf}
 use Rattle.mileage.specs.Calls.{proposeCallRows, proposeCall}
-use Rattle.mileage.proofs.Entries.{unit-refused, unit-accepted, propose-sizes, image-stored, message-stored}
+use Rattle.mileage.proofs.Entries.{log-refused, propose-sizes, propose-stored}
+use Rattle.mileage.proofs.Held.{log-good, image-bad, image-good, held}
 use borrow.Author.Needs.{needs}
 use Rattle.mileage.proofs.mileage_propose.Statement.{statement}
 use Rattle.mileage.proofs.mileage_propose.Tie as tie
 
 returns-2 : tie.Need-returns-2
-unfolding proposeCall proposeCallRows
+unfolding proposeCall proposeCallRows firstOf
 returns-2 c =
+    let k = c .before .enum-told .given in
     let s = c .before .before .before .before in
-    let right = rw (s .before .before .before .before .before .wrong-lengths .ensures) at (s .if1 .left) in
-    let n = c .before .number2 .ensures in
-    rw (n, s .before .before .before .clear .ensures)
-    (unit-refused today _ _ _ (c .before .before .read-unit .ensures .0) _ _ _ _ right (λ z. c .if2 .taken (n ∙ z)))
+    rw (
+      rw (s .before .before .before .before .before .wrong-lengths .ensures) at (s .if1 .left),
+      log-refused today sane-today _ (k .0 .0) (sym (ap logReading (k .1)) ∙ c .before .before .before .read-log .ensures),
+      c .number2 .ensures,
+      s .before .before .before .clear .ensures,
+    )
 
 returns-3 : tie.Need-returns-3
 unfolding proposeCall proposeCallRows firstOf
 returns-3 c =
-    let r = c .before .before .before .before .before in
-    let s = r .before .before in
-    let zero = sym (c .before .before .before .before .number2 .ensures) ∙ c .before .before .before .if2 .left in
-    let read = unit-accepted today _ _ _ (r .read-unit .ensures .0) zero in
+    let i = c .before .before .before in
+    let l = i .before .before .before in
+    let s = l .before .before .before in
+    let read = sym (ap logReading (l .l .given .1)) ∙ l .before .before .read-log .ensures in
     rw (
       rw (s .before .before .before .before .before .wrong-lengths .ensures) at (s .if1 .left),
-      read .0,
-      read .1,
-      sym (c .before .before .out-of-range .ensures) ∙ c .before .if3 .taken,
+      log-good _ _ read,
+      image-bad _ _ _ read (sym (i .state-for .ensures) ∙ c .before .enum-told2 .given .1),
       c .number3 .ensures,
       s .before .before .before .clear .ensures,
     )
@@ -35,29 +43,37 @@ returns-3 c =
 returns-4 : tie.Need-returns-4
 unfolding proposeCall proposeCallRows firstOf
 returns-4 c =
+    let i = c .before .before .before .before .before .before in
+    let l = i .before .before .before in
+    let s = l .before .before .before in
+    let read = sym (ap logReading (l .l .given .1)) ∙ l .before .before .read-log .ensures in
+    rw (
+      rw (s .before .before .before .before .before .wrong-lengths .ensures) at (s .if1 .left),
+      log-good _ _ read,
+      image-good _ _ _ read _ (sym (i .state-for .ensures) ∙ c .before .before .before .before .state .given .1),
+      sym (c .before .before .out-of-range .ensures) ∙ c .before .if2 .taken,
+      c .number4 .ensures,
+      s .before .before .before .clear .ensures,
+    )
+
+returns-5 : tie.Need-returns-5
+returns-5 c =
     let p = c .before .before .before .before .before in
     let x = p .before .before .before .before in
-    let r = x .before .before .before .before in
-    let s = r .before .before in
-    let start = s .before .before .before .before .before .before .before .before .before .before .args in
-    let zero = sym (x .before .before .before .number2 .ensures) ∙ x .before .before .if2 .left in
-    let read = unit-accepted today _ _ _ (r .read-unit .ensures .0) zero in
+    let i = x .before .before .before .before .before in
+    let l = i .before .before .before in
+    let s = l .before .before .before in
+    let known = s .before .before .before .before .before .before .before .before in
+    let start = known .before .before .args in
+    let read = sym (ap logReading (l .l .given .1)) ∙ l .before .before .read-log .ensures in
+    let fit = sym (i .state-for .ensures) ∙ x .before .before .before .state .given .1 in
     let right = rw (s .before .before .before .before .before .wrong-lengths .ensures) at (s .if1 .left) in
-    let long = propose-sizes today (start .log .now) (start .image .now) (start .out .now) right in
-    rw (
-      right,
-      read .0,
-      read .1,
-      sym (x .before .out-of-range .ensures) ∙ x .if3 .left,
-      c .number4 .ensures,
-      p .put-proposal .ensures .1,
-      s .before .before .before .clear .ensures,
-      message-stored today _ _ (start .out .now) (long .1),
-      p .put-proposal .ensures .0,
-      image-stored today _ (start .image .now) (long .0),
-      p .before .before .before .proposed .ensures,
-      r .read-unit .ensures .1 zero,
-    )
+    let long = ap length (s .before .before .before .clear .ensures) ∙ length-cleared today (start .out .now)
+    ∙ propose-sizes today _ _ (start .out .now) right .1 in
+    let h = held _ _ _ read _ fit (λ k. omega (arith, known .before .shared-slice-known .given k)) (λ k. omega (arith, known .slice-known .given k)) in
+    rw (c .number5 .ensures)
+    (propose-stored today _ _ _ _ right (log-good _ _ read) (image-good _ _ _ read _ fit) (sym (x .before .out-of-range .ensures) ∙ x .if2 .left) _ _
+    (p .propose .ensures .0 _ h) (p .propose .ensures .1 _ (h .begins) long))
 
 pub mileage-propose-spec : {M : Type 1} → statement M
 unfolding proposeCall proposeCallRows firstOf
@@ -75,18 +91,26 @@ mileage-propose-spec =
       c .before .before .before .before .clear .ensures,
     ))
     (λ c κs. search needs)
+    (λ c. search needs)
+    (λ c. search needs)
     (λ c κs. search needs)
     (λ c. search needs)
     (λ c. search needs)
     returns-2
     (λ c κs. search needs)
+    (λ c. search needs)
+    (λ c. search needs)
     (λ c κs. search needs)
     (λ c. search needs)
     (λ c. search needs)
     returns-3
     (λ c κs. search needs)
     (λ c κs. search needs)
+    (λ c. search needs)
+    (λ c. search needs)
+    returns-4
+    (λ c κs. search needs)
     (λ c κs. search needs)
     (λ c. search needs)
     (λ c. search needs)
-    returns-4)
+    returns-5)

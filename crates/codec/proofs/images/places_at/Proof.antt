@@ -1,0 +1,67 @@
+-- The invariant: the places passed are all right. Assumes nothing.
+use Prim.Native.Nat.{_+_, _*_, _-_, _≤_}
+use mathlib.Core.Path.{_≡_, refl}
+use native.Mathlib.Numerals.{add-one}
+use native.Mathlib.Omega.{arith}
+use borrow.Author.Needs.{needs}
+use Rattle.tally.specs.Limits.{today, senders}
+use Rattle.tally.specs.Tally.{isMarked, placed}
+use Rattle.contents.specs.Images.{every, placeOk, placesOk}
+use Rattle.codec.specs.Images.{tallyAt}
+use Rattle.codec.proofs.Places.{placed-at}
+use Rattle.codec.proofs.images.places_at.Statement.{statement}
+use Rattle.codec.proofs.images.places_at.Tie as tie
+
+abbrev Inv-loop : tie.InvT-loop
+Inv-loop s at split n marks from₀ ok₀ k₀ from ok k = (k ≤ senders) × ((from ≡ at + 2 + 4 * k) ×
+    (ok ≡ every k (λ u. placeOk today split n u (isMarked (tallyAt at s .marks) u) (placed (tallyAt at s) u))))
+
+abbrev μ-loop : tie.MeasureT-loop
+μ-loop s at split n marks from₀ ok₀ k₀ from ok k = senders - k
+
+loop-again : tie.Need-loop-again Inv-loop μ-loop
+unfolding every
+loop-again c =
+    let l = c .before .before .before .before .before in
+    let args = l .before .before .before .args in
+    let e = rw (← l .loop .inv .1 .0, ← c .before .before .before .be32 .ensures) at (placed-at (args .at) (l .loop .k) (args .s .now) (search needs)) in (
+      omega arith,
+      (
+        omega arith,
+        rw (
+          add-one,
+          e,
+          c .place-ok .ensures,
+          c .before .is-marked .ensures,
+          c .before .before .estimate-of .ensures,
+          l .before .be16 .ensures,
+          l .loop .inv .1 .1,
+        ),
+      ),
+    )
+
+returns : tie.Need-returns Inv-loop μ-loop
+unfolding placesOk
+returns c =
+    let e : c .before .loop .k ≡ senders = omega arith in
+    rw e at (c .before .loop .inv .1 .1)
+
+pub places-at-spec : {M : Type 1} → statement M
+unfolding every
+places-at-spec =
+    tie.close
+    (tie.spec
+    Inv-loop
+    μ-loop
+    (λ c κs. search needs)
+    (λ c. search needs)
+    (λ c. (omega arith, (omega arith, refl)))
+    (λ c κs. omega arith)
+    (λ c κs. search needs)
+    (λ c κs. search needs)
+    (λ c κs. search needs)
+    (λ c. omega arith)
+    (λ c. omega arith)
+    (λ c. omega arith)
+    loop-again
+    returns)

@@ -1,0 +1,121 @@
+-- What the bytes of a log and of an image that fits it hold. Assumes nothing.
+use Prim.Native.Nat.{ℕ}
+use mathlib.Core.Path.{_≡_, refl, sym, ap, _∙_}
+use mathlib.Core.Bool.{Bool, true, false, not, cond, _&&_}
+use mathlib.Core.List.{List}
+use lib.Dec.{eqb}
+use lib.ListN.{length}
+use borrow.Author.Tests.{eqb-true, eq-eqb}
+use Rattle.tally.specs.Limits.{today, messageSize}
+use Rattle.tally.proofs.Bounds.{sane-today}
+use Rattle.tally.proofs.Never.{never}
+use Rattle.contents.specs.Images.{imageOk, fits}
+use Rattle.contents.specs.Logs.{logOk}
+use Rattle.contents.specs.declared.Image.{Image}
+use Rattle.contents.specs.declared.Log.{Log}
+use Rattle.contents.specs.declared.Message.{Message}
+use Rattle.contents.specs.declared.Settings.{Settings}
+use Rattle.contents.specs.declared.State.{State}
+use Rattle.contents.proofs.Same.{same-settings}
+use Rattle.contents.proofs.Tests.{both-true}
+use Rattle.codec.specs.Formats.{Reading, reading}
+use Rattle.codec.specs.Images.{TypedImage, imageFormat, imageBytes, readImage, fitState}
+use Rattle.codec.specs.Logs.{logFormat, readLog}
+use Rattle.codec.specs.Messages.{emptyBytes, cleared}
+use Rattle.codec.specs.Numbers.{Bytes}
+use Rattle.codec.specs.declared.StateRead.{StateRead}
+use Rattle.codec.proofs.ImageFormat as images
+use Rattle.codec.proofs.LogFormat as logs
+use Rattle.codec.proofs.RoundTrips.{written-read}
+use Rattle.consensus.specs.Methods.{forOther}
+use Rattle.consensus.specs.Units.{unitLog, unitImage, upUnit}
+use Rattle.mileage.specs.Calls.{Holds, badLog, badImage, logBytes, unitOf}
+
+-- contents that were read with the number 0
+pub was-read : {A : Type 0} (r : Reading A) → eqb (r .number) 0 ≡ true → r ≡ reading 0 (r .contents)
+was-read r e = rw (← eqb-true (r .number) 0 e)
+
+-- an image that fits has the log's settings, and so is the image of the unit
+pub fit-image : (i : Image) (r : Log) → fits i r ≡ true → unitImage (upUnit r i) ≡ i
+unfolding fits
+fit-image i r h =
+    ap (λ (x : Settings). record { settings = x; state = i .state; checks = i .checks; seconds = i .seconds })
+    (sym (same-settings (i .settings) (r .settings) (both-true _ _ h .0)))
+
+-- what was read is well formed, and has these bytes
+log-back : (log : List ℕ) (r : Log) → Bytes log → readLog today log ≡ reading 0 r → (logOk today r ≡ true) × (logBytes today r ≡ log)
+unfolding readLog logBytes
+log-back log r b e = written-read (logFormat today) (λ r. Unit) (logs.lawful today sane-today) log r b e
+
+image-back : (image : List ℕ) (i : Image) → Bytes image → readImage today image ≡ reading 0 i
+    → (imageOk today i ≡ true) × (imageBytes today i ≡ image)
+unfolding readImage imageBytes
+image-back image i b e = written-read (imageFormat today) TypedImage (images.lawful today sane-today) image i b e
+
+-- a buffer that was cleared is an empty message
+pub cleared-empty : (out out2 : List ℕ) → out2 ≡ cleared today out → length out ≡ messageSize today → out2 ≡ emptyBytes today
+unfolding cleared
+cleared-empty out out2 e n = e ∙ rw (eq-eqb (length out) (messageSize today) n)
+
+pub log-good : (log : List ℕ) (r : Log) → reading 0 r ≡ readLog today log → badLog today log ≡ false
+unfolding badLog
+log-good log r read = rw (← read)
+
+-- a message's addressee is tested against the log that was read
+pub for-read : (log : List ℕ) (r : Log) (m : Message) (b : Bool) → reading 0 r ≡ readLog today log → forOther (r .settings) m ≡ b
+    → forOther (readLog today log .contents .settings) m ≡ b
+for-read log r m b read h = rw (← read) h
+
+-- a log that was read
+module _ (log image : List ℕ) (r : Log) (read : reading 0 r ≡ readLog today log) where
+  pub log-there : Bytes log → log ≡ logBytes today (unitLog (unitOf today log image))
+  log-there b = rw (← read) (sym (log-back log r b (sym read) .1))
+
+  abbrev test : Bool
+  test = eqb (readImage today image .number) 0 && fits (readImage today image .contents) r
+
+  -- an image that does not fit it
+  pub image-bad : fitState (readImage today image) r ≡ StateRead.Unfit → badImage today log image ≡ true
+  unfolding fitState badImage
+  image-bad h = rw (← read) (go test h)
+    where
+      go : (b : Bool) → cond b (StateRead.Fits (readImage today image .contents .state)) StateRead.Unfit ≡ StateRead.Unfit → not b ≡ true
+      go true e = never cc
+      go false e = refl
+
+  -- an image that does
+  module _ (s : State) (fit : fitState (readImage today image) r ≡ StateRead.Fits s) where
+    tested : (test ≡ true) × (readImage today image .contents .state ≡ s)
+    unfolding fitState
+    tested = go test refl fit
+      where
+        go : (b : Bool) → test ≡ b → cond b (StateRead.Fits (readImage today image .contents .state)) StateRead.Unfit ≡ StateRead.Fits s
+            → (test ≡ true) × (readImage today image .contents .state ≡ s)
+        go true e h = (e, cc)
+        go false e h = never cc
+
+    pub image-good : badImage today log image ≡ false
+    unfolding badImage
+    image-good = rw (← read, tested .0)
+
+    pub held : Bytes log → Bytes image → Holds (unitOf today log image) (record { settings = r .settings; state = s }) image
+    held lb b =
+        let i = readImage today image .contents in
+        let t = both-true (eqb (readImage today image .number) 0) (fits i r) (tested .0) in
+        let there = was-read (readImage today image) (t .0) in
+        let same = fit-image i r (t .1) in
+        let back = image-back image i b there in
+        let typed = images.read-typed today sane-today image i b there in
+        rw (← read)
+        (record {
+          well-formed =
+              record {
+                log = log-back log r lb (sym read) .0;
+                image = ap (imageOk today) same ∙ back .0;
+                fit = ap (λ (x : Image). fits x r) same ∙ t .1;
+                checks = typed .0;
+                seconds = typed .1;
+              };
+          begins = ap (λ (x : State). record { settings = r .settings; state = x }) (tested .1);
+          bytes = sym (ap (imageBytes today) same ∙ back .1);
+        })
