@@ -1,18 +1,25 @@
 -- What the step on bytes writes is the answer's, and what it reads is the unit's. Assumes nothing.
-use Prim.Native.Nat.{ℕ, _<_}
-use mathlib.Core.Path.{_≡_, refl, ap, _∙_}
+use Prim.Native.Nat.{ℕ, _<_, _≤_}
+use mathlib.Core.Path.{_≡_, refl, sym, ap, _∙_}
 use mathlib.Core.Bool.{Bool, true, false, cond}
-use mathlib.Core.List.{List}
+use mathlib.Core.List.{List, [], _∷_}
 use native.Mathlib.Omega.{arith}
 use lib.Dec.{ltb}
 use lib.ListN.{length, length-replicate}
+use borrow.Author.Tests.{eqb-true, le-leb}
 use Rattle.tally.specs.Limits.{today, blankCode, senders, imageSize, logSize, messageSize}
-use Rattle.tally.specs.Tally.{mark}
+use Rattle.tally.specs.Gathered.{anyMileage, holders, allHold, common, firstPassing, lowest, leads, majority}
+use Rattle.tally.specs.Quorum.{quorumOf, majorityOf}
+use Rattle.tally.specs.Tally.{mark, gathered}
 use Rattle.tally.specs.declared.Engine.{Engine}
 use Rattle.tally.specs.declared.Engine.the-variants.{B, R}
 use Rattle.tally.specs.declared.Estimate.{Estimate}
+use Rattle.tally.specs.declared.Estimate.the-variants.{Blank, Split, Mileage}
+use Rattle.tally.specs.declared.Tally.{Tally}
 use Rattle.tally.proofs.Bounds.{sane-today}
+use Rattle.tally.proofs.Gathered.{all-counted, common-all}
 use Rattle.tally.proofs.Never.{never}
+use Rattle.tally.proofs.Quorums.{quorum-thirds, majority-least}
 use Rattle.tally.proofs.Tallies.{typed-mark}
 use Rattle.contents.specs.Estimates.{isB}
 use Rattle.contents.specs.Messages.{messageOk}
@@ -26,7 +33,7 @@ use Rattle.codec.specs.Messages.{messageFormat, emptyBytes}
 use Rattle.codec.proofs.ImageFormat.{AllKnown, known-cells, known-set}
 use Rattle.codec.proofs.Places.{length-image, checks-there, seconds-there}
 use Rattle.codec.proofs.Steps.{stored-contents}
-use Rattle.consensus.specs.Step.{says, sends, quiet, voteKind, withChecks, withSeconds, atRound, caughtUp}
+use Rattle.consensus.specs.Step.{nextProposal, says, sends, quiet, voteKind, withChecks, withSeconds, atRound, caughtUp}
 use Rattle.consensus.specs.Units.{WellFormed, unitLog, unitImage}
 use Rattle.consensus.specs.declared.Unit as U
 use Rattle.mileage.specs.Calls.{called, answered, logBytes, messageBytes}
@@ -133,3 +140,30 @@ module _ (u : U.Unit) (w : WellFormed today u) where
               ∙ seconds-there (unitImage v) typed-seconds
               (known-set today sane-today (u .seconds .cells) (m .sender) (m .estimate) known-seconds known-estimate),
         )
+
+-- ---- a mileage that all gathered hold
+
+-- it is the first that passes a test which it passes
+first-common : (P : Estimate → Bool) (es : List Estimate) (v : ℕ) → common es ≡ Mileage v → P (Mileage v) ≡ true → firstPassing P es ≡ Mileage v
+unfolding common firstPassing
+first-common P [] v h p = never cc
+first-common P (Blank ∷ es) v h p = never cc
+first-common P (Split ∷ es) v h p = never cc
+first-common P (Mileage w ∷ es) v h p = go (allHold w es) h
+  where
+    go : (b : Bool) → cond b (Mileage w) Split ≡ Mileage v → cond (P (Mileage w)) (Mileage w) (firstPassing P es) ≡ Mileage v
+    go true h = rw (h, p)
+    go false h = never cc
+
+-- and so the proposal of the next round
+pub next-common : (g : Engine) (n : ℕ) (t : Tally) (own e : Estimate) → e ≡ common (gathered t) → anyMileage e ≡ true
+    → quorumOf g n ≤ length (gathered t) → e ≡ nextProposal g n t own
+unfolding nextProposal lowest majority leads
+next-common g n t own Blank h a q = never a
+next-common g n t own Split h a q = never a
+next-common B n t own (Mileage v) h a q = sym (rw (first-common anyMileage (gathered t) v (sym h) refl))
+next-common R n t own (Mileage v) h a q =
+    let held : holders v (gathered t) ≡ length (gathered t) = eqb-true _ _ (sym (all-counted v (gathered t)) ∙ common-all (gathered t) v (sym h)) in
+    let most = majority-least n (quorumOf R n) (omega (arith, quorum-thirds n)) in
+    let enough : majorityOf n ≤ holders v (gathered t) = omega (arith, held, q, most) in
+    sym (first-common (leads (majorityOf n) (gathered t)) (gathered t) v (sym h) (le-leb (majorityOf n) (holders v (gathered t)) enough))

@@ -17,7 +17,9 @@ ghost use lib.Count.{ones};
 ghost use lib.Dec.{leb};
 ghost use lib.ListN.{length};
 ghost use Rattle.tally.specs.Limits.{today, blankCode, logSize, imageSize, messageSize};
+ghost use Rattle.tally.specs.Gathered.{common};
 ghost use Rattle.tally.specs.Quorum.{quorumOf};
+ghost use Rattle.tally.specs.Tally.{gathered};
 ghost use Rattle.contents.specs.Images.{imageLog};
 ghost use Rattle.contents.specs.Messages.{messageOk};
 ghost use Rattle.codec.specs.Formats.{stored};
@@ -154,9 +156,15 @@ fn on_check(front: Log, m: Message, log: &mut [u8], image: &mut [u8], out: &mut 
 }
 
 // ---- SECOND
-fn next_proposal(engine: Engine, n: u8, image: &[u8], own: Estimate) -> Estimate
-    ensures { λ r. ⌜ (length (now (image .entry)) ≡ imageSize today → r ≡ nextProposal engine n (tallyAt secondsAt (now (image .entry))) own) ⌝ }
+// A mileage that all gathered hold is the lowest's and the majority's too.
+fn next_proposal(engine: Engine, n: u8, image: &[u8], own: Estimate, all: Estimate) -> Estimate
+    ensures { λ r. ⌜ (length (now (image .entry)) ≡ imageSize today → all ≡ common (gathered (tallyAt secondsAt (now (image .entry))))
+        → quorumOf engine n ≤ length (gathered (tallyAt secondsAt (now (image .entry))))
+        → r ≡ nextProposal engine n (tallyAt secondsAt (now (image .entry))) own) ⌝ }
 {
+    if tally::any_mileage(all) {
+        return all;
+    }
     match engine {
         Engine::B => step::or_if_blank(codec::images::lowest_second(image), own),
         Engine::R => codec::images::majority_second(image, tally::majority_size(n)),
@@ -167,6 +175,7 @@ fn next_proposal(engine: Engine, n: u8, image: &[u8], own: Estimate) -> Estimate
 fn close(front: Log, image: &mut [u8], decision: &mut u32)
     requires { ⌜ front .state .round ≤ today .lastRound ⌝ }
     ensures { λ _. ⌜ ((u : U.Unit) → imageLog (unitImage u) ≡ front → length (now (image .entry)) ≡ imageSize today
+        → quorumOf (front .settings .engine) (front .settings .n) ≤ length (gathered (tallyAt secondsAt (now (image .entry))))
         → called 0 (logBytes today (unitLog u)) (now (image .exit)) (emptyBytes today) (now (decision .exit))
         ≡ answered today (close u (tallyAt secondsAt (now (image .entry))))) ⌝ }
 {
@@ -174,8 +183,9 @@ fn close(front: Log, image: &mut [u8], decision: &mut u32)
     let engine = settings.engine;
     let old = front.state;
     let own = old.proposal;
-    let decided = step::decided(codec::images::common_second(image));
-    let proposal = next_proposal(engine, settings.n, image, own);
+    let all = codec::images::common_second(image);
+    let decided = step::decided(all);
+    let proposal = next_proposal(engine, settings.n, image, own, all);
     let state = step::clean(old.round + 1, proposal);
     *decision = codec::codes::code_of(decided);
     codec::images::store_unmarked(Log { settings, state }, image);

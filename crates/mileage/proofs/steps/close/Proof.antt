@@ -10,15 +10,15 @@ use Rattle.mileage.proofs.steps.close.Tie as tie
 
 returns : tie.Need-returns
 unfolding close atRound messageBytes
-returns c u e len =
+returns c u e len full =
     let k = c .before .before .before .before in
     let n = k .before .before .before in
     let d = n .before .before in
     let args = d .before .before .before .before .before .before .args in
-    let image = (rw (k .before .clean .ensures, n .next-proposal .ensures len, ← e) at (c .before .before .store-unmarked .ensures))
-    ∙ image-stored today _ (args .image .now) len in
-    let number = k .code-of .ensures
-    ∙ ap codeOf (d .decided .ensures ∙ ap decided (d .before .common-second .ensures len)) in
+    let all = d .before .common-second .ensures len in
+    let next = n .next-proposal .ensures len all full in
+    let image = (rw (k .before .clean .ensures, next, ← e) at (c .before .before .store-unmarked .ensures)) ∙ image-stored today _ (args .image .now) len in
+    let number = k .code-of .ensures ∙ ap codeOf (d .decided .ensures ∙ ap decided all) in
     rw (image, number)
 
 pub close-spec : {M : Type 1} → statement M

@@ -1,7 +1,8 @@
 use mathlib.Core.Path.{refl, ap, _∙_}
-use borrow.Author.Tests.{not-true, not-false}
+use borrow.Author.Tests.{leb-true, not-true, not-false}
 use Rattle.tally.specs.Limits.{today}
 use Rattle.tally.specs.Tally.{mark}
+use Rattle.tally.proofs.Tallies.{length-gathered, typed-mark}
 use Rattle.consensus.specs.Step.{withSeconds, isFull, secondsWith, close, countSecond, onSecond}
 use Rattle.consensus.specs.Units.{unitImage}
 use Rattle.mileage.specs.Calls.{answered}
@@ -24,7 +25,10 @@ returns c u h d =
     let full = rw (f .before .is-full .ensures, f .before .before .with-mark .ensures, marks, ← h .begins) at (f .if2 .taken) in
     let image = k .mark-second .ensures (sender-below _ ok) (unitImage u) (h .well-formed .checks, h .well-formed .seconds) (h .bytes) in
     let r = marked-seconds u (h .well-formed) (args .m) ok _ image in
-    rw (test, full) (c .before .before .close .ensures u (h .begins) (r .0) ∙ ap (λ t. answered today (close u t)) (r .1))
+    let typed = typed-mark (u .seconds) (args .m .sender) (args .m .estimate) (h .well-formed .seconds) (sender-below _ ok) in
+    let counted = length-gathered (mark (u .seconds) (args .m .sender) (args .m .estimate)) (typed .marks) in
+    rw (test, full)
+    (c .before .before .close .ensures u (h .begins) (r .0) (rw (r .1, counted, ← h .begins) (leb-true _ _ full)) ∙ ap (λ t. answered today (close u t)) (r .1))
 
 returns-2 : tie.Need-returns-2
 unfolding onSecond countSecond secondsWith isFull mark
