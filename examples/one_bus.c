@@ -79,9 +79,10 @@ static void key_off(struct unit *unit)
 static void start(uint32_t number)
 {
     struct unit *unit = &units[number];
+    uint8_t log[MILEAGE_LOG_LENGTH];
 
-    must(mileage_start('B', UNITS, number, ENTRY, unit->permanent, sizeof unit->permanent,
-                       unit->image, sizeof unit->image) == MILEAGE_ACCEPTED, "start");
+    must(mileage_start('B', UNITS, number, ENTRY, log, sizeof log, unit->image, sizeof unit->image) == MILEAGE_ACCEPTED, "start");
+    memcpy(unit->permanent, log, sizeof log);
     unit->on = true;
     unit->decision = MILEAGE_BLANK;
 }
