@@ -7,6 +7,7 @@ use compare::places;
 use compare::program::{printed, Failure, Feed};
 use compare::random::Random;
 use compare::side::{Side, CORE, INDEPENDENT};
+use std::io::{Read, Write};
 use std::path::Path;
 use std::process::ExitCode;
 use std::time::Instant;
@@ -14,6 +15,8 @@ use std::time::Instant;
 const SAMPLES: usize = 101;
 const CALLS: u64 = 2_000;
 const PROCESSES: usize = 41;
+/// Where this is set in its environment, this program is the independent bench: a script in, its listing out.
+const PLAYS: &str = "BENCHMARK_PLAYS";
 const USAGE: &str = "benchmark [--count core|independent|copy CASE N]";
 
 /// The median of each of these, in nanoseconds; one after the other in every sample.
@@ -95,19 +98,13 @@ fn time_processes(program: &Path, player: &Path, script: &[u8]) -> Result<Vec<f6
 
 fn bench_table() -> Result<(), String> {
     let program = places::program();
-    let player = std::env::current_exe()
-        .map_err(|error| error.to_string())?
-        .with_file_name("player");
-    for (path, command) in [
-        (&program, "rt check mileage_bench"),
-        (&player, "cargo build --offline --release"),
-    ] {
-        if !path.exists() {
-            return Err(format!(
-                "no program {}: run `{command}` first",
-                path.display()
-            ));
-        }
+    let player = std::env::current_exe().map_err(|error| error.to_string())?;
+    std::env::set_var(PLAYS, "1");
+    if !program.exists() {
+        return Err(format!(
+            "no program {}: run `rt check mileage_bench` first",
+            program.display()
+        ));
     }
     let script = longest(&mut Random::new(412_077));
     let lines = script.iter().filter(|&&byte| byte == b'\n').count() as f64 - 1.0;
@@ -171,7 +168,22 @@ fn count(words: &[String]) -> Result<(), String> {
     Ok(())
 }
 
+fn play() -> Result<(), String> {
+    let mut script = Vec::new();
+    std::io::stdin()
+        .lock()
+        .read_to_end(&mut script)
+        .and_then(|_| {
+            let listing = independent::bench::listing(&script);
+            std::io::stdout().lock().write_all(&listing)
+        })
+        .map_err(|error| error.to_string())
+}
+
 fn run() -> Result<(), String> {
+    if std::env::var_os(PLAYS).is_some() {
+        return play();
+    }
     let words: Vec<String> = std::env::args().skip(1).collect();
     match words.split_first() {
         None => calls_table().and_then(|()| bench_table()),
