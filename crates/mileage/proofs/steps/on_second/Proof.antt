@@ -28,7 +28,8 @@ returns c u h d =
     let typed = typed-mark (u .seconds) (args .m .sender) (args .m .estimate) (h .well-formed .seconds) (sender-below _ ok) in
     let counted = length-gathered (mark (u .seconds) (args .m .sender) (args .m .estimate)) (typed .marks) in
     rw (test, full)
-    (c .before .before .close .ensures u (h .begins) (r .0) (rw (r .1, counted, ← h .begins) (leb-true _ _ full)) ∙ ap (λ t. answered today (close u t)) (r .1))
+    (c .before .before .close .ensures u (h .begins) (r .0) (rw (r .1, counted, ← h .begins) (leb-true _ _ full))
+    ∙ ap (λ t. answered today (close u t)) (r .1))
 
 returns-2 : tie.Need-returns-2
 unfolding onSecond countSecond secondsWith isFull mark
