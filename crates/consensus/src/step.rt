@@ -193,15 +193,15 @@ impl Unit {
     }
 
     // The unit takes a round and a proposal, and blanks both estimates and all marks.
-    fn at_round(self, round: Round, proposal: Estimate) -> Unit
+    fn at_round(mut self, round: Round, proposal: Estimate) -> Unit
         ensures { λ r. ⌜ r ≡ atRound self round proposal ⌝ }
     {
-        Unit {
-            current: clean(round, proposal),
-            checks: Tally::empty(),
-            seconds: Tally::empty(),
-            ..self
-        }
+        let current = clean(round, proposal);
+        let none = Tally::empty();
+        self.current = current;
+        self.checks = none;
+        self.seconds = none;
+        self
     }
 
     // ---- starting, and key-on

@@ -8,7 +8,7 @@ use lib.Dec.{eqb, eqb·suc-suc}
 use lib.ListN.{length}
 use borrow.Author.Tests.{eq-eqb, ne-eqb, eqb-true, eqb-false, le-leb, lt-leb, leb-true}
 use Rattle.tally.specs.Count.{bump, passing}
-use Rattle.tally.specs.Gathered.{anyMileage, holds, holders, allHold, common, firstPassing, lowest, leads, majority}
+use Rattle.tally.specs.Gathered.{anyMileage, holds, holders, allHold, common, firstPassing, lowest, leads, majority, agrees}
 use Rattle.tally.specs.Quorum.{quorumOf, majorityOf}
 use Rattle.tally.specs.declared.Engine.the-variants.{R}
 use Rattle.tally.specs.declared.Estimate.{Estimate}
@@ -53,6 +53,38 @@ common-counted (Split ∷ es) = few (Split ∷ es) (firstPassing anyMileage es) 
 common-counted (Mileage v ∷ es) =
     let same : allHold v es ≡ (eqb v v && allHold v es) = rw (eq-eqb v v refl) in
     ap (λ (b : Bool). cond b (Mileage v) Split) (same ∙ all-counted v (Mileage v ∷ es))
+
+-- what is common to those that all agree so far, as a loop has it, and to more
+abbrev pub after : Estimate → List Estimate → Estimate
+after Blank es = common es
+after Split es = Split
+after (Mileage v) es = cond (allHold v es) (Mileage v) Split
+
+pub after-one : (a e : Estimate) (es : List Estimate) → after a (e ∷ es) ≡ cond (agrees a e) (after e es) Split
+unfolding common allHold
+after-one Blank Blank es = refl
+after-one Blank Split es = refl
+after-one Blank (Mileage v) es = refl
+after-one Split e es = refl
+after-one (Mileage v) Blank es = refl
+after-one (Mileage v) Split es = refl
+after-one (Mileage v) (Mileage w) es = go (eqb w v) refl
+  where
+    go : (b : Bool) → eqb w v ≡ b → cond (b && allHold v es) (Mileage v) Split ≡ cond b (cond (allHold w es) (Mileage w) Split) Split
+    go true h = rw (eqb-true w v h)
+    go false h = refl
+
+pub nothing-more : (a : Estimate) → anyMileage a ≡ true → after a [] ≡ a
+unfolding allHold
+nothing-more Blank h = never cc
+nothing-more Split h = refl
+nothing-more (Mileage v) h = refl
+
+pub nothing-common : (a : Estimate) → anyMileage a ≡ false → after a [] ≡ Split
+unfolding common
+nothing-common Blank h = refl
+nothing-common Split h = refl
+nothing-common (Mileage v) h = never cc
 
 -- where the first that passes does not pass, none does
 first-none : (P : Estimate → Bool) (es : List Estimate) → P (firstPassing P es) ≡ false → passing P es ≡ 0

@@ -13,15 +13,16 @@ use lib.Pow.{pow-lt, pow-pos}
 use lib.Seq.{getD-set-same, getD-set-other}
 use Rattle.tally.specs.Limits.{senders}
 use Rattle.tally.specs.Count.{bump, passing, count, Both}
-use Rattle.tally.specs.Gathered.{holds, holders, firstPassing}
+use Rattle.tally.specs.Gathered.{holds, holders, firstPassing, agrees}
 use Rattle.tally.specs.Tally.{Typed, OnlyBelow, noMarks, isMarked, blankCell, placed, held, mark, gatheredFrom, gathered}
 use Rattle.tally.specs.Quorum.{quorumOf}
 use Rattle.tally.specs.declared.Cell.{Cell}
 use Rattle.tally.specs.declared.Engine.{Engine}
 use Rattle.tally.specs.declared.Estimate.{Estimate}
-use Rattle.tally.specs.declared.Estimate.the-variants.{Blank}
+use Rattle.tally.specs.declared.Estimate.the-variants.{Blank, Split}
 use Rattle.tally.specs.declared.Tally.{Tally}
 use Rattle.tally.proofs.Count.{passing-all, count-same, count-below}
+use Rattle.tally.proofs.Gathered.{after, after-one}
 use Rattle.tally.proofs.Quorums.{quorums-overlap}
 use Rattle.tally.proofs.Marks.{ones-senders, mark-same, mark-other}
 
@@ -50,6 +51,15 @@ module _ (P : Estimate → Bool) (t : Tally) (s : ℕ) (below : s < senders) whe
       go : (b : Bool) (es : List Estimate) → firstPassing P (cond b (placed t s ∷ es) es) ≡ cond (b && P (placed t s)) (placed t s) (firstPassing P es)
       go true es = refl
       go false es = refl
+
+-- the same, for what is common
+pub after-step : (a : Estimate) (t : Tally) (s : ℕ) → s < senders
+    → after a (rest t s) ≡ cond (isMarked (t .marks) s) (cond (agrees a (placed t s)) (after (placed t s) (rest t (s + 1))) Split) (after a (rest t (s + 1)))
+after-step a t s below = ap (after a) (rest-step t s below) ∙ go (isMarked (t .marks) s) (rest t (s + 1))
+  where
+    go : (b : Bool) (es : List Estimate) → after a (cond b (placed t s ∷ es) es) ≡ cond b (cond (agrees a (placed t s)) (after (placed t s) es) Split) (after a es)
+    go true es = after-one a (placed t s) es
+    go false es = refl
 
 -- those gathered that pass a test are the marked senders whose estimate does
 module _ (P : Estimate → Bool) (t : Tally) where

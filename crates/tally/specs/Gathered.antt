@@ -54,3 +54,11 @@ leads need es (Mileage v) = leb need (holders v es)
 -- where `need` is over half of them no two mileages have it, so that it does not matter where the search begins
 unfoldable pub majority : ℕ → List Estimate → Estimate
 majority need es = firstPassing (leads need es) es
+
+-- ---- what an inner function promises, and no public contract cites
+
+-- a mileage that goes with those so far, which are blank where there are none, and else the mileage that all hold
+abbrev pub agrees : Estimate → Estimate → Bool
+agrees Blank e = anyMileage e
+agrees Split e = false
+agrees (Mileage v) e = holds v e

@@ -9,7 +9,7 @@ ghost use Rattle.tally.specs.Limits.{senders};
 ghost use Rattle.tally.specs.Refusal.{numberOf};
 ghost use Rattle.tally.specs.Quorum.{quorumOf, majorityOf};
 ghost use Rattle.tally.specs.Tally.{isMarked, noMarks, mark, gathered, gatheredFrom};
-ghost use Rattle.tally.specs.Gathered.{anyMileage, holds, holders, common, lowest, leads, firstPassing, majority};
+ghost use Rattle.tally.specs.Gathered.{anyMileage, holds, holders, common, lowest, leads, firstPassing, majority, agrees};
 
 // The engines of the scope paper: B after B*-Consensus, R after R*-Consensus.
 pub enum Engine {
@@ -128,6 +128,17 @@ pub fn holds(e: Estimate, v: u32) -> bool
     }
 }
 
+// Is a mileage the one that all so far hold? Blank is none so far, with which any mileage agrees.
+fn agrees(all: Estimate, e: Estimate) -> bool
+    ensures { λ r. ⌜ r ≡ agrees all e ⌝ }
+{
+    match all {
+        Estimate::Blank => any_mileage(e),
+        Estimate::Split => false,
+        Estimate::Mileage(v) => holds(e, v),
+    }
+}
+
 // Sixteen blanks.
 pub const NO_CELLS: [Cell; limits::SENDERS] = [Cell {
     estimate: Estimate::Blank,
@@ -194,21 +205,27 @@ impl Tally {
         Estimate::Blank
     }
 
-    // The mileage that all the marked hold; split where they differ.
+    // The mileage that all the marked hold; split where they differ. One loop, with no call that takes the tally: it is never copied.
     pub fn common(self) -> Estimate
         ensures { λ r. ⌜ r ≡ common (gathered self) ⌝ }
     {
-        let low = self.lowest();
-        match low {
-            Estimate::Blank => Estimate::Split,
-            Estimate::Split => Estimate::Split,
-            Estimate::Mileage(v) => {
-                if self.holders(v) == self.count() {
-                    low
+        let mut all = Estimate::Blank;
+        for s in 0..limits::MAX_UNITS {
+            let at = s as usize;
+            let c = self.cells[at];
+            let e = c.estimate;
+            if is_marked(self.marks, s) {
+                if agrees(all, e) {
+                    all = e;
                 } else {
-                    Estimate::Split
+                    return Estimate::Split;
                 }
             }
+        }
+        if any_mileage(all) {
+            all
+        } else {
+            Estimate::Split
         }
     }
 

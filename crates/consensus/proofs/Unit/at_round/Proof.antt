@@ -10,5 +10,4 @@ at-round-spec =
     (tie.spec
     (λ c κs. search needs)
     (λ c κs. search needs)
-    (λ c κs. search needs)
-    (λ c. rw (c .before .before .before .before .clean .ensures, c .before .before .before .empty .ensures, c .before .before .empty2 .ensures)))
+    (λ c. rw (c .before .clean .ensures, c .empty .ensures)))
