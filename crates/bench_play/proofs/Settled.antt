@@ -9,6 +9,7 @@ use Rattle.tally.specs.Limits.{Limits, places}
 use Rattle.tally.specs.Refusal.{numberOf}
 use Rattle.tally.specs.declared.Refusal.{Refusal}
 use Rattle.tally.proofs.Never.{never}
+use Rattle.contents.specs.Messages.{isEmpty}
 use Rattle.contents.specs.declared.Kind.{Kind}
 use Rattle.contents.specs.declared.Kind.the-variants.{Empty, First, Check, Second, Skip}
 use Rattle.consensus.specs.Methods.{refuses, unless}
@@ -17,7 +18,7 @@ use Rattle.consensus.specs.declared.Answer.{Answer}
 use Rattle.consensus.specs.declared.Unit as U
 use Rattle.bench_script.specs.Script.{eventUnit}
 use Rattle.bench_script.specs.declared.Event.{Event}
-use Rattle.bench_play.specs.Bench.{noUnit, refused, accepted, noPlaceLeft, withUnit, withMessage, isEmpty, send, settle}
+use Rattle.bench_play.specs.Bench.{noUnit, refused, accepted, noPlaceLeft, withUnit, withMessage, send, settle}
 use Rattle.bench_play.specs.Play.{unitAnswer, answer}
 use Rattle.bench_play.specs.declared.Bench.{Bench}
 use Rattle.bench_play.specs.declared.Reply.{Reply}

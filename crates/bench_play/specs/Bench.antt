@@ -10,8 +10,7 @@ use Rattle.tally.specs.declared.Engine.the-variants.{B}
 use Rattle.tally.specs.declared.Estimate.{Estimate}
 use Rattle.tally.specs.declared.Estimate.the-variants.{Blank}
 use Rattle.tally.specs.declared.Refusal.{Refusal}
-use Rattle.contents.specs.declared.Kind.{Kind}
-use Rattle.contents.specs.declared.Kind.the-variants.{Empty, First, Check, Second, Skip}
+use Rattle.contents.specs.Messages.{isEmpty}
 use Rattle.contents.specs.declared.Message.{Message}
 use Rattle.contents.specs.declared.Settings.{Settings}
 use Rattle.consensus.specs.Step.{emptyMessage, fresh, clean}
@@ -78,13 +77,6 @@ withUnit b u x = record { units = set (b .units) u x; messages = b .messages; ke
 -- a message takes the next place: places are filled from the front, and nothing is removed
 unfoldable pub withMessage : Bench → Message → Bench
 withMessage b m = record { units = b .units; messages = set (b .messages) (b .kept) m; kept = b .kept + 1 }
-
-abbrev pub isEmpty : Kind → Bool
-isEmpty Empty = true
-isEmpty First = false
-isEmpty Check = false
-isEmpty Second = false
-isEmpty Skip = false
 
 -- 11 is last, and refuses the whole event
 unfoldable pub send : Bench → ℕ → Answer → Reply

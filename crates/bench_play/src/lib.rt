@@ -5,7 +5,6 @@ use consensus::Answer;
 use consensus::Unit;
 use consensus::methods;
 use consensus::step;
-use contents::Kind;
 use contents::Message;
 use contents::Settings;
 use tally::Estimate;
@@ -16,7 +15,7 @@ ghost use Prim.Native.Nat.{_<_, _≤_};
 ghost use Rattle.tally.specs.Limits.{today, senders, places};
 ghost use Rattle.bench_script.specs.Script.{eventUnit};
 ghost use Rattle.bench_play.specs.Bench.{settingsOf, freshUnits, start, unitAt, messageAt, refused, accepted, noPlaceLeft};
-ghost use Rattle.bench_play.specs.Bench.{withUnit, withMessage, isEmpty, send, settle};
+ghost use Rattle.bench_play.specs.Bench.{withUnit, withMessage, send, settle};
 ghost use Rattle.consensus.specs.Step.{fresh};
 ghost use Rattle.bench_play.specs.Play.{delivery, cutShort, answer};
 
@@ -65,18 +64,6 @@ fn fresh_units(h: Header) -> [Unit; limits::SENDERS]
         i += 1;
     }
     units
-}
-
-fn is_empty(kind: Kind) -> bool
-    ensures { λ r. ⌜ r ≡ isEmpty kind ⌝ }
-{
-    match kind {
-        Kind::Empty => true,
-        Kind::First => false,
-        Kind::Check => false,
-        Kind::Second => false,
-        Kind::Skip => false,
-    }
 }
 
 // The key goes off after the log write: nothing is sent or decided.
@@ -191,7 +178,7 @@ impl Bench {
         if tally::number(refusal) == 0 {
             let message = a.message;
             let kind = message.kind;
-            if is_empty(kind) {
+            if contents::messages::is_empty(kind) {
                 let decision = a.decision;
                 self.with_unit(u, a.unit).accepted(Sent::Nothing, decision)
             } else {

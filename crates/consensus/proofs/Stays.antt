@@ -1,20 +1,23 @@
--- In a delivery an estimate that is not blank stays while the round does, and the round never falls. Assumes nothing.
-use Prim.Native.Nat.{_≤_, _<_}
-use mathlib.Core.Path.{_≡_, refl, sym, _∙_}
+-- In a delivery the round never falls. While it stays, so does an estimate that is not blank, and a tally whose marks do. Assumes nothing.
+use Prim.Native.Nat.{ℕ, _≤_, _<_}
+use mathlib.Core.Path.{_≡_, refl, sym, ap, _∙_}
 use mathlib.Core.Bool.{Bool, true, false, cond}
 use native.Mathlib.Omega.{arith}
 use lib.Dec.{ltb}
 use borrow.Author.Tests.{ltb-false}
+use Rattle.tally.specs.Tally.{isMarked, held, noMarks, mark}
 use Rattle.tally.specs.declared.Estimate.{Estimate}
+use Rattle.tally.specs.declared.Tally.{Tally}
+use Rattle.tally.proofs.Marks.{mark-same}
 use Rattle.tally.proofs.Never.{never}
 use Rattle.contents.specs.Estimates.{isBlank}
 use Rattle.contents.specs.declared.Kind.{Kind}
 use Rattle.contents.specs.declared.Message.{Message}
 use Rattle.contents.specs.declared.State.{State}
-use Rattle.consensus.specs.Step.{logWrite, atRound, takeFirst, takeSecond, close, onKind, skip, caughtUp, received}
+use Rattle.consensus.specs.Step.{logWrite, atRound, takeFirst, takeSecond, checksWith, secondsWith, close, onKind, skip, caughtUp, received}
 use Rattle.consensus.specs.declared.Answer.{Answer}
 use Rattle.consensus.specs.declared.Unit as U
-use Rattle.consensus.proofs.Branches.{by-kind, by-check, by-second, by-round}
+use Rattle.consensus.proofs.Branches.{by-kind, by-check, by-second, by-round, unmarked-none}
 
 -- an estimate that is not blank stays
 abbrev pub Kept : Estimate → Estimate → Type 0
@@ -65,3 +68,50 @@ caught-up-round u m h = go (ltb (u .current .round) (m .round)) refl
     go : (b : Bool) → ltb (u .current .round) (m .round) ≡ b → cond b (atRound u (m .round) (m .proposal)) u .current .round ≡ m .round
     go true e = refl
     go false e = omega (arith, ltb-false (u .current .round) (m .round) e)
+
+-- ---- the tallies
+
+-- tallies of one marking hold the same of every sender
+abbrev pub SameHeld : Tally → Tally → Type 0
+SameHeld a b = b .marks ≡ a .marks → (s : ℕ) → held b s ≡ held a s
+
+same-held : (t : Tally) → SameHeld t t
+same-held t e s = refl
+
+-- an unmarked sender's mark is seen in the marks
+held-marked : (t : Tally) (s : ℕ) (e : Estimate) → isMarked (t .marks) s ≡ false → SameHeld t (mark t s e)
+unfolding mark
+held-marked t s e new same = never (sym new ∙ ap (λ (m : ℕ). isMarked m s) (sym same) ∙ mark-same (t .marks) s)
+
+-- where no marks were, nothing was held
+held-cleared : (t : Tally) → SameHeld t noMarks
+unfolding held noMarks
+held-cleared t same s = rw (← same, unmarked-none s)
+
+abbrev pub Tallies : U.Unit → U.Unit → Type 0
+Tallies u v = v .current .round ≡ u .current .round → SameHeld (u .checks) (v .checks) × SameHeld (u .seconds) (v .seconds)
+
+abbrev TalliesTo : U.Unit → Answer → Type 0
+TalliesTo u a = Tallies u (a .unit)
+
+tallies-kind : (k : Kind) (u : U.Unit) (m : Message) → TalliesTo u (onKind k u m)
+unfolding takeFirst takeSecond checksWith secondsWith close logWrite atRound
+tallies-kind k u m =
+    by-kind (TalliesTo u) k u m
+    (record {
+      nothing = same;
+      first = λ _ _. same;
+      checks = λ _ _ new. by-check (TalliesTo u) u _ (λ _ e. (held-cleared (u .checks), same-held (u .seconds)))
+      (λ _ e. (held-marked (u .checks) (m .sender) (m .estimate) new, same-held (u .seconds)));
+      seconds = λ _ new. by-second (TalliesTo u) u _ (λ _ e. absurd (omega arith))
+      (λ _ e. (same-held (u .checks), held-marked (u .seconds) (m .sender) (m .estimate) new));
+    })
+  where
+    same : Tallies u u
+    same e = (same-held (u .checks), same-held (u .seconds))
+
+pub tallies-stay : (u : U.Unit) (m : Message) → Tallies u (received u m .unit)
+unfolding skip atRound
+tallies-stay u m =
+    by-round (TalliesTo u) u m (λ _ e. (same-held (u .checks), same-held (u .seconds))) (λ _. tallies-kind (m .kind) u m)
+    (λ h e. absurd (omega (arith, stays-kind (m .kind) (atRound u (m .round) (m .proposal)) m .round)))

@@ -10,7 +10,7 @@ use tally::Estimate;
 use tally::Refusal;
 use tally::Tally;
 ghost use mathlib.Core.Path.{_≡_};
-ghost use Rattle.consensus.specs.Units.{unitLog, atLog, downUnit};
+ghost use Rattle.consensus.specs.Units.{unitLog, atLog, downUnit, upUnit};
 
 // A unit is down, or up with estimates.
 pub enum Power {
@@ -44,6 +44,22 @@ impl Unit {
         let settings = self.settings;
         let state = self.logged;
         Log { settings, state }
+    }
+
+    // The up unit of a log and of what an image that fits it holds.
+    pub fn up(log: Log, current: State, checks: Tally, seconds: Tally) -> Unit
+        ensures { λ r. ⌜ r ≡ upUnit log (record { settings = log .settings; state = current; checks = checks; seconds = seconds }) ⌝ }
+    {
+        let settings = log.settings;
+        let logged = log.state;
+        Unit {
+            power: Power::Up,
+            settings,
+            logged,
+            current,
+            checks,
+            seconds,
+        }
     }
 
     // A unit at its log's contents, without marks.

@@ -1,5 +1,5 @@
 -- Well-formed messages. Assumes nothing.
-use mathlib.Core.Bool.{Bool, false, _&&_}
+use mathlib.Core.Bool.{Bool, true, false, _&&_}
 use lib.Dec.{eqb, ltb}
 use Rattle.tally.specs.Limits.{Limits, everyone}
 use Rattle.contents.specs.Estimates.{isB, isBlank, mileageOrBlank, mileageOrSplit, sameMileage}
@@ -7,6 +7,14 @@ use Rattle.contents.specs.Logs.{numbersOk, roundOk}
 use Rattle.contents.specs.declared.Kind.{Kind}
 use Rattle.contents.specs.declared.Kind.the-variants.{Empty, First, Check, Second, Skip}
 use Rattle.contents.specs.declared.Message.{Message}
+
+-- an empty message counts as no message
+abbrev pub isEmpty : Kind → Bool
+isEmpty Empty = true
+isEmpty First = false
+isEmpty Check = false
+isEmpty Second = false
+isEmpty Skip = false
 
 -- F: receiver is everyone; estimate and proposal are the same mileage
 unfoldable pub firstOk : Limits → Message → Bool
@@ -24,7 +32,7 @@ secondOk l m = eqb (m .receiver) everyone && mileageOrSplit l (m .engine) (m .es
 unfoldable pub skipOk : Limits → Message → Bool
 skipOk l m = ltb (m .receiver) (m .n) && isBlank (m .estimate) && mileageOrBlank l (m .proposal)
 
--- an empty message counts as no message
+-- each kind has its rule, and an empty message is not well formed
 unfoldable pub kindOk : Limits → Kind → Message → Bool
 kindOk l Empty m = false
 kindOk l First m = firstOk l m

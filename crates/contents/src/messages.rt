@@ -6,7 +6,19 @@ use super::logs;
 use tally::limits;
 ghost use mathlib.Core.Path.{_≡_};
 ghost use Rattle.tally.specs.Limits.{today};
-ghost use Rattle.contents.specs.Messages.{firstOk, checkOk, secondOk, skipOk, kindOk, messageOk};
+ghost use Rattle.contents.specs.Messages.{isEmpty, firstOk, checkOk, secondOk, skipOk, kindOk, messageOk};
+
+pub fn is_empty(kind: Kind) -> bool
+    ensures { λ r. ⌜ r ≡ isEmpty kind ⌝ }
+{
+    match kind {
+        Kind::Empty => true,
+        Kind::First => false,
+        Kind::Check => false,
+        Kind::Second => false,
+        Kind::Skip => false,
+    }
+}
 
 pub fn first_ok(m: Message) -> bool
     ensures { λ r. ⌜ r ≡ firstOk today m ⌝ }
