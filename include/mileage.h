@@ -1,7 +1,8 @@
 /*
  * The mileage agreement core as C firmware calls it: the unit of one entry (starting it, key-on, proposing, delivering),
  * and reading and writing logs and messages. Link libmileage.a; it keeps nothing of its own between calls, allocates
- * nothing, and uses from outside at most memcpy, memset and memmove.
+ * nothing, and uses from outside at most memcpy, memset and memmove. Of the stack mileage_deliver uses at most 1,024 bytes
+ * in engine B and 8,192 in engine R, every other call at most 512 (measured on x86-64, not proved).
  *
  * A buffer is passed as a pointer and then its length. The length counts elements: bytes of a log, an image or a message,
  * numbers of a fields buffer. Each pointer must be valid for its length and not be null, `decision` for one number. The

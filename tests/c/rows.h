@@ -207,6 +207,7 @@ static const struct row other_rounds[] = {
     {"CHECK above, second set", "B 3 1 7 4 9 8 !", "C B 3 0 * 7 5 6 6", BECOMES("B 3 1 7 5 6 - - C0=6")},
     {"SECOND above", "B 3 1 7 4 9 8 - C0=8 S0=5", "S B 3 2 * 7 5 5 6", BECOMES("B 3 1 7 5 6 - - S2=5")},
     {"SECOND above, sender marked", "B 3 1 7 4 9 8 6 S2=5", "S B 3 2 * 7 5 5 6", BECOMES("B 3 1 7 5 6 - - S2=5")},
+    {"SECOND above, sender marked with another", "B 3 1 7 4 9 8 6 S2=8", "S B 3 2 * 7 5 5 6", BECOMES("B 3 1 7 5 6 - - S2=5")},
     {"SECOND above, split and blank", "B 3 1 7 4 9 8 6", "S B 3 2 * 7 5 ! -", BECOMES("B 3 1 7 5 - - - S2=!")},
     {"SECOND above in R", "R 3 1 7 4 9 8 - S0=5 S1=5", "S R 3 1 * 7 9 5 -", BECOMES("R 3 1 7 9 - - - S1=5")},
     {"SECOND above, the image above its log", "B 3 1 7 4 9 - - S0=5", "S B 3 2 * 7 5 5 6",

@@ -21,7 +21,7 @@ use Rattle.tally.specs.declared.Tally.{Tally}
 use Rattle.tally.proofs.Count.{count-mono}
 use Rattle.tally.proofs.Never.{never}
 use Rattle.tally.proofs.Quorums.{quorum-half}
-use Rattle.tally.proofs.Tallies.{held-same, held-other}
+use Rattle.tally.proofs.Tallies.{held-same, held-other, held-unmarked}
 use Rattle.contents.specs.Estimates.{isB, isBlank, mileageOrSplit}
 use Rattle.contents.specs.Messages.{kindOk}
 use Rattle.contents.specs.declared.Kind.{Kind}
@@ -31,7 +31,6 @@ use Rattle.contents.proofs.KindRules.{check-mileage, second-estimate}
 use Rattle.contents.proofs.Facts.{message-facts}
 use Rattle.contents.proofs.Tests.{both-true}
 use Rattle.consensus.specs.Step.{orIfBlank, decided, nextProposal}
-use Rattle.consensus.proofs.Branches.{held-none}
 use Rattle.consensus.proofs.Full.{Proper, voted, others, holds-mileage, full-voted, common-voted, lowest-voted, lowest-blank, lowest-not-split, next-r-blocks}
 use Rattle.consensus.proofs.Full.{next-r-voted}
 use Rattle.agreement.specs.Worlds.{Setup, Many}
@@ -66,7 +65,8 @@ vote-mileage l (Mileage v) h = (v, refl)
 
 module _ (X : Message → Type 0) (k : Kind) (r : ℕ) where
   pub tallied-none : Tallied X k r noMarks
-  tallied-none s h = never (sym h ∙ rw (held-none s) refl)
+  unfolding noMarks
+  tallied-none s h = never (sym h ∙ rw (held-unmarked noMarks refl s) refl)
 
   tallied-mileage : (t : Tally) → Tallied X k r t → (s v : ℕ) → held t s ≡ Mileage v → Vote X k s r (Mileage v)
   tallied-mileage t tallied s v e = subst (Vote X k s r) e (tallied s (rw e refl))

@@ -3,15 +3,14 @@ use mathlib.Core.Path.{_≡_, refl, sym, ap, ap₂, _∙_}
 use mathlib.Core.Bool.{Bool, true, false}
 use mathlib.Core.List.{List, [], _∷_, _++_, map}
 use mathlib.Core.Option.{some}
-use Prim.Native.Nat.{ℕ, zero, suc, _+_, _<_}
+use Prim.Native.Nat.{ℕ, suc, _+_, _<_}
 use native.Mathlib.Omega.{arith}
-use lib.ListN.{length, getD, set, take, drop, replicate, length-append, length-drop, length-map, take-append-drop}
+use lib.ListN.{length, getD, take, drop, replicate, length-append, length-drop, length-map, take-append-drop}
 use lib.Seq.{take-at, drop-at, getD-take, length-take-le}
 use Rattle.tally.specs.Limits.{Limits, today, logSize, imageSize, logFields, senders, Sane}
 use Rattle.tally.specs.Tally.{Typed, blankCell, isMarked, placed}
 use Rattle.tally.specs.declared.Cell.{Cell}
 use Rattle.tally.specs.declared.Engine.{Engine}
-use Rattle.tally.specs.declared.Estimate.{Estimate}
 use Rattle.tally.specs.declared.Tally.{Tally}
 use Rattle.tally.specs.Refusal.{numberOf}
 use Rattle.tally.specs.declared.Refusal.{Refusal}
@@ -98,14 +97,6 @@ module _ (l : Limits) (sane : Sane l) where
   unfolding AllKnown
   known-cells split g n t f typed s h =
       let b : s < senders = omega (arith, typed .cells) in known-place l split n s (isMarked (t .marks) s) (placed t s) (f .places s b)
-
-  pub known-set : (cs : List Cell) (k : ℕ) (e : Estimate) → AllKnown cs → Known l e → AllKnown (set cs k (record { estimate = e }))
-  unfolding AllKnown
-  known-set [] k e a b s h = a s h
-  known-set (c ∷ cs) zero e a b zero h = b
-  known-set (c ∷ cs) zero e a b (suc s) h = a (suc s) h
-  known-set (c ∷ cs) (suc k) e a b zero h = a 0 (omega arith)
-  known-set (c ∷ cs) (suc k) e a b (suc s) h = known-set cs k e (later c cs a) b s (omega arith)
 
   module _ (t : Tally) (typed : Typed t) (known : AllKnown (t .cells)) where
     pub tally-back : tallyOf (tallyNumbers t) ≡ t

@@ -15,6 +15,7 @@ use Rattle.tally.specs.declared.Estimate.{Estimate}
 use Rattle.tally.specs.declared.Estimate.the-variants.{Blank, Split, Mileage}
 use Rattle.tally.proofs.Never.{never}
 use Rattle.tally.proofs.Bounds.{split-below-blank, blank-fits}
+use Rattle.contents.specs.Estimates.{isBlank}
 use Rattle.contents.specs.declared.Kind.{Kind}
 use Rattle.contents.specs.declared.Kind.the-variants.{Empty, First, Check, Second, Skip}
 use Rattle.contents.proofs.Facts.{Known}
@@ -113,3 +114,12 @@ listed (suc k) (v ∷ vs) e = rw (shift 0 k, listed k vs (omega arith))
     shift : (o k : ℕ) → spread (suc o) k (v ∷ vs) ≡ spread o k vs
     shift o zero = refl
     shift o (suc k) = rw (shift (suc o) k)
+
+-- blank has a number of its own
+pub blank-number : (x : ℕ) → eqb x blankCode ≡ isBlank (estimateOf x)
+blank-number x = go (eqb x blankCode) (eqb x splitCode)
+  where
+    go : (a b : Bool) → a ≡ isBlank (cond a Blank (cond b Split (Mileage x)))
+    go true b = refl
+    go false true = refl
+    go false false = refl

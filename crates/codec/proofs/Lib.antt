@@ -5,5 +5,6 @@ pub mod Letters
 pub mod LogFormat
 pub mod MessageFormat
 pub mod ImageFormat
+pub mod Marked
 pub mod Places
 pub mod Cleared

@@ -5,35 +5,38 @@ use mathlib.Core.Bool.{Bool, true, false, cond, _&&_}
 use mathlib.Core.Option.{some}
 use mathlib.Core.List.{List, [], _∷_, _++_, map, append-assoc, append-nil}
 use native.Mathlib.Omega.{arith}
-use lib.ListN.{length, getD, set, replicate, length-append}
-use lib.Seq.{sets}
+use lib.Dec.{eqb}
+use lib.ListN.{length, getD, replicate, length-append}
+use borrow.Author.Tests.{eq-eqb, eqb-true}
 use Rattle.tally.specs.Limits.{today, imageSize, senders}
-use lib.Bits.{bitOr}
-use Rattle.tally.specs.Tally.{Typed, blankCell, isMarked, placed, mark}
-use Rattle.tally.specs.Count.{bump, passing}
-use Rattle.tally.specs.Gathered.{firstPassing}
-use Rattle.tally.specs.declared.Cell.{Cell}
-use Rattle.tally.specs.declared.Estimate.{Estimate}
-use Rattle.tally.proofs.Bounds.{sane-today}
-use Rattle.tally.proofs.Tallies.{rest, first-step, passing-step, typed-mark}
+use Rattle.tally.specs.Tally.{Typed, isMarked, blankCell, placed, held}
+use Rattle.tally.specs.declared.Estimate.the-variants.{Blank}
 use Rattle.tally.specs.declared.Tally.{Tally}
 use Rattle.tally.specs.Refusal.{numberOf}
 use Rattle.tally.specs.declared.Refusal.{Refusal}
+use Rattle.tally.proofs.Bounds.{sane-today}
+use Rattle.contents.specs.Estimates.{isB}
 use Rattle.contents.specs.Images.{imageOk, fits}
 use Rattle.contents.specs.declared.Image.{Image}
 use Rattle.contents.specs.declared.Log.{Log}
 use Rattle.contents.specs.declared.State.{State}
+use Rattle.contents.proofs.Facts.{ImageFacts, image-facts}
+use Rattle.contents.proofs.Tests.{both-true}
 use Rattle.codec.specs.Codes.{codeOf, estimateOf}
 use Rattle.codec.specs.Formats.{reading, checked, withZero}
 use Rattle.codec.specs.declared.StateRead.{StateRead}
-use Rattle.codec.specs.Images.{imageWidths, imageNumbers, imageFormat, noImage, fitState}
-use Rattle.codec.specs.Images.{TypedImage, cellOf, cellCode}
-use Rattle.codec.specs.Images.{cellWidths, tallyWidths, tallyOf, tallyNumbers, tallyAt, imageBytes, setState, setChecks, setSeconds}
-use Rattle.codec.specs.Images.{checksAt, secondsAt}
-use Rattle.codec.specs.Logs.{logZero, settingsWidths, settingsNumbers, stateWidths, stateNumbers}
+use Rattle.codec.specs.Images.{TypedImage, cellOf, cellCode, cellWidths, tallyWidths, tallyOf, tallyNumbers, tallyAt, withTallies}
+use Rattle.codec.specs.Images.{imageWidths, imageNumbers, imageFormat, imageBytes, noImage, fitState, checksAt, secondsAt}
+use Rattle.codec.specs.Images.{asMarked, checksOf, secondsOf, stateOver, tallyOver, imageOver}
+use Rattle.codec.specs.Logs.{logZero, settingsWidths, settingsNumbers, stateWidths, stateNumbers, roundAt}
 use Rattle.codec.specs.Numbers.{numAt, bytesOf, total, unpack, pack, packInto}
 use Rattle.codec.proofs.ImageFormat as image
-use Rattle.codec.proofs.Rows.{length-bytesOf, num-bytes, unpack-part, pack-append, sets-over, packInto-part, length-packed}
+use Rattle.codec.proofs.Marked.{length-held, typed-marked, as-marked}
+use Rattle.codec.proofs.Rows.{num-bytes, unpack-part, pack-append, packInto-part, length-packed}
+
+-- an image's settings with another state
+abbrev withState : State → Image → Log
+withState s i = record { settings = i .settings; state = s }
 
 -- ---- a tally's places
 
@@ -45,17 +48,13 @@ cell-at (suc n) (suc k) o bs h =
     let e : o + 4 + 4 * k ≡ o + 4 * suc k = omega arith in
     cell-at n k (o + 4) bs (omega arith) ∙ ap (λ (x : ℕ). cellOf (numAt bs x 4)) e
 
+pub held-at : (marks o k : ℕ) (bs : List ℕ) → k < senders
+    → held (record { marks = marks; cells = map cellOf (unpack o cellWidths bs) }) k ≡ cond (isMarked marks k) (estimateOf (numAt bs (o + 4 * k) 4)) Blank
+unfolding held
+held-at marks o k bs h = rw (cell-at senders k o bs h)
+
 pub placed-at : (o k : ℕ) (bs : List ℕ) → k < senders → placed (tallyAt o bs) k ≡ estimateOf (numAt bs (o + 2 + 4 * k) 4)
 placed-at o k bs h = rw (cell-at senders k (o + 2) bs h)
-
--- one turn of a loop over a tally's places: the code's marks, estimate and tests, and what they are of the tally
-module _ (P : Estimate → Bool) (t : Tally) (k : ℕ) (below : k < senders) (marks : ℕ) (m : marks ≡ t .marks) where
-  pub search-step : (marked passes : Bool) (e : Estimate) → e ≡ placed t k → marked ≡ isMarked marks k → passes ≡ P e
-      → firstPassing P (rest t k) ≡ cond (marked && passes) e (firstPassing P (rest t (k + 1)))
-  search-step marked passes e p a b = first-step P t k below ∙ rw (a, b, m, p)
-
-  pub count-step : (b : Bool) → b ≡ (isMarked marks k && P (placed t k)) → passing P (rest t k) ≡ bump b (passing P (rest t (k + 1)))
-  count-step b e = passing-step P t k below ∙ rw (e, m)
 
 -- ---- an image that is tested where it stands
 
@@ -80,7 +79,7 @@ settingsBytes i = pack settingsWidths (settingsNumbers (i .settings))
 abbrev stateBytes : State → List ℕ
 stateBytes s = pack (stateWidths today) (stateNumbers s)
 
-pub image-parts : (i : Image) → TypedImage i
+image-parts : (i : Image) → TypedImage i
     → imageBytes today i ≡ settingsBytes i ++ (stateBytes (i .state) ++ (tallyBytes (i .checks) ++ tallyBytes (i .seconds)))
 unfolding imageBytes
 image-parts i t =
@@ -106,10 +105,19 @@ length-image i t =
     length-packed (imageWidths today) (withZero logZero (imageNumbers i))
     (simp (length-append, image.length-tally (i .checks) (t .0 .cells), image.length-tally (i .seconds) (t .1 .cells)))
 
+-- a round that was stored is read back
+round-there : (i : Image) → TypedImage i → i .state .round < 256 ^ today .roundWidth → roundAt (imageBytes today i) ≡ i .state .round
+round-there i t fit =
+    let a = bytesOf (today .roundWidth) (i .state .round) in
+    let r = pack (4 ∷ 4 ∷ 4 ∷ []) (codeOf (i .state .proposal) ∷ codeOf (i .state .first) ∷ codeOf (i .state .second) ∷ []) in
+    let q = tallyBytes (i .checks) ++ tallyBytes (i .seconds) in
+    rw (image-parts i t, append-assoc a r q)
+    (num-bytes (today .roundWidth) (i .state .round) (settingsBytes i) (r ++ q) (total settingsWidths) (length-settings i) fit)
+
 pub state-written : (s : State) (i : Image) → TypedImage i
-    → packInto (imageBytes today i) (total settingsWidths) (stateWidths today) (stateNumbers s) ≡ imageBytes today (setState s i)
+    → stateOver s (imageBytes today i) ≡ imageBytes today (withTallies (withState s i) (i .checks) (i .seconds))
 state-written s i t =
-    rw (image-parts i t, image-parts (setState s i) t)
+    rw (image-parts i t, image-parts (withTallies (withState s i) (i .checks) (i .seconds)) t)
     (packInto-part (stateWidths today) (stateNumbers s) (settingsBytes i) (stateBytes (i .state)) _ _
     (length-settings i) (length-state (i .state)) refl)
 
@@ -136,75 +144,48 @@ module _ (i : Image) (t : TypedImage i) where
       by-checks
       ∙ rw (append-nil (tallyBytes (i .seconds))) (sym (append-assoc (front i) (tallyBytes (i .checks)) (tallyBytes (i .seconds))))
 
--- CHECKs written whole
-pub checks-written : (c : Tally) (i : Image) → Typed c → TypedImage i
-    → packInto (imageBytes today i) checksAt tallyWidths (tallyNumbers c) ≡ imageBytes today (setChecks c i)
+-- a tally written over an older one, at any place
+tally-over : (same : Bool) (t old : Tally) (p q : List ℕ) (o : ℕ) → Typed old → length p ≡ o
+    → (same ≡ true → t .marks ≡ old .marks → asMarked t ≡ old)
+    → tallyOver o same t (p ++ (tallyBytes old ++ q)) ≡ p ++ (tallyBytes (asMarked t) ++ q)
+tally-over same t old p q o typed len kept = rw there (go (same && eqb (t .marks) (old .marks)) refl)
+  where
+    there : numAt (p ++ (tallyBytes old ++ q)) o 2 ≡ old .marks
+    there =
+        let a = bytesOf 2 (old .marks) in
+        let r = pack cellWidths (map cellCode (old .cells)) in
+        rw (append-assoc a r q) (num-bytes 2 (old .marks) p (r ++ q) o len (omega (arith, typed .marks)))
+
+    go : (b : Bool) → (same && eqb (t .marks) (old .marks)) ≡ b
+        → cond b (p ++ (tallyBytes old ++ q)) (packInto (p ++ (tallyBytes old ++ q)) o tallyWidths (tallyNumbers (asMarked t)))
+        ≡ p ++ (tallyBytes (asMarked t) ++ q)
+    go true e =
+        let h = both-true same (eqb (t .marks) (old .marks)) e in
+        ap (λ (x : Tally). p ++ (tallyBytes x ++ q)) (sym (kept (h .0) (eqb-true _ _ (h .1))))
+    go false e =
+        packInto-part tallyWidths (tallyNumbers (asMarked t)) p (tallyBytes old) q o len (length-counted old (typed .cells))
+        (image.length-tally (asMarked t) (length-held t 0 senders))
+
+-- a state and tallies written over an older image, which has a tally already where neither the round nor its marks are others
+pub image-over : (i : Image) (s : State) (c d : Tally) → TypedImage i → Typed c → Typed d → i .state .round < 256 ^ today .roundWidth
+    → (s .round ≡ i .state .round → c .marks ≡ i .checks .marks → asMarked c ≡ i .checks)
+    → (s .round ≡ i .state .round → d .marks ≡ i .seconds .marks → asMarked d ≡ i .seconds)
+    → imageOver s c d (imageBytes today i) ≡ imageBytes today (withTallies (withState s i) (asMarked c) (asMarked d))
 unfolding front
-checks-written c i k t =
-    rw (by-checks i t, by-checks (setChecks c i) (k, t .1))
-    (packInto-part tallyWidths (tallyNumbers c) (front i) (tallyBytes (i .checks)) (tallyBytes (i .seconds)) checksAt (length-front i t)
-    (length-counted (i .checks) (t .0 .cells)) (image.length-tally c (k .cells)))
-
--- one estimate of a row written
-cell-written : (n : ℕ) (cs : List Cell) (k : ℕ) (c : Cell) (p q : List ℕ) (o : ℕ) → length cs ≡ n → k < n → length p ≡ o
-    → sets (p ++ (pack (replicate n 4) (map cellCode cs) ++ q)) (o + 4 * k) (bytesOf 4 (cellCode c))
-    ≡ p ++ (pack (replicate n 4) (map cellCode (set cs k c)) ++ q)
-cell-written zero cs k c p q o len h e = absurd (omega arith)
-cell-written (suc n) [] k c p q o len h e = absurd (omega arith)
-cell-written (suc n) (d ∷ cs) zero c p q o len h e =
-    let b = bytesOf 4 (cellCode c) in
-    let r = pack (replicate n 4) (map cellCode cs) in
-    let z : o + 4 * 0 ≡ o = omega arith in
-    let same : length b ≡ length (bytesOf 4 (cellCode d)) = length-bytesOf 4 (cellCode c) ∙ sym (length-bytesOf 4 (cellCode d)) in
-    rw (z, append-assoc (bytesOf 4 (cellCode d)) r q, append-assoc b r q) (sets-over p (bytesOf 4 (cellCode d)) (r ++ q) b o e same)
-cell-written (suc n) (d ∷ cs) (suc k) c p q o len h e =
-    let a = bytesOf 4 (cellCode d) in
-    let r = pack (replicate n 4) (map cellCode cs) in
-    let s = pack (replicate n 4) (map cellCode (set cs k c)) in
-    let z : o + 4 * suc k ≡ o + 4 + 4 * k = omega arith in
-    let long : length (p ++ a) ≡ o + 4 = simp (length-append, length-bytesOf) (omega arith) in
-    rw (z, append-assoc a r q, append-assoc a s q, ← append-assoc p a (r ++ q), ← append-assoc p a (s ++ q))
-    (cell-written n cs k c (p ++ a) q (o + 4) (omega arith) (omega arith) long)
-
--- a sender marked, at any place
-marked : (t : Tally) (s : ℕ) (e : Estimate) (p q : List ℕ) (o : ℕ) → Typed t → s < senders → length p ≡ o
-    → sets (sets (p ++ (tallyBytes t ++ q)) o (bytesOf 2 (bitOr (numAt (p ++ (tallyBytes t ++ q)) o 2) (2 ^ s)))) (o + 2 + 4 * s) (bytesOf 4 (codeOf e))
-    ≡ p ++ (tallyBytes (mark t s e) ++ q)
-unfolding mark
-marked t s e p q o typed h len =
-    let a = bytesOf 2 (t .marks) in
-    let m = bytesOf 2 (bitOr (t .marks) (2 ^ s)) in
-    let r = pack cellWidths (map cellCode (t .cells)) in
-    let r2 = pack cellWidths (map cellCode (set (t .cells) s (record { estimate = e }))) in
-    let small : t .marks < 256 ^ 2 = omega (arith, typed .marks) in
-    let same : length m ≡ length a = length-bytesOf 2 _ ∙ sym (length-bytesOf 2 (t .marks)) in
-    let long : length (p ++ m) ≡ o + 2 = simp (length-append, length-bytesOf) (omega arith) in
-    rw (
-      append-assoc a r q,
-      append-assoc m r2 q,
-      num-bytes 2 (t .marks) p (r ++ q) o len small,
-      sets-over p a (r ++ q) m o len same,
-      ← append-assoc p m (r ++ q),
-      ← append-assoc p m (r2 ++ q),
-    )
-    (cell-written senders (t .cells) s (record { estimate = e }) (p ++ m) q (o + 2) (typed .cells) h long)
-
-module _ (i : Image) (t : TypedImage i) (s : ℕ) (e : Estimate) (h : s < senders) where
-  pub check-marked : sets (sets (imageBytes today i) checksAt (bytesOf 2 (bitOr (numAt (imageBytes today i) checksAt 2) (2 ^ s))))
-      (checksAt + 2 + 4 * s) (bytesOf 4 (codeOf e))
-      ≡ imageBytes today (setChecks (mark (i .checks) s e) i)
-  unfolding front
-  check-marked =
-      rw (by-checks i t, by-checks (setChecks (mark (i .checks) s e) i) (typed-mark (i .checks) s e (t .0) h, t .1))
-      (marked (i .checks) s e (front i) (tallyBytes (i .seconds)) checksAt (t .0) h (length-front i t))
-
-  pub second-marked : sets (sets (imageBytes today i) secondsAt (bytesOf 2 (bitOr (numAt (imageBytes today i) secondsAt 2) (2 ^ s))))
-      (secondsAt + 2 + 4 * s) (bytesOf 4 (codeOf e))
-      ≡ imageBytes today (setSeconds (mark (i .seconds) s e) i)
-  unfolding front
-  second-marked =
-      rw (by-seconds i t, by-seconds (setSeconds (mark (i .seconds) s e) i) (t .0, typed-mark (i .seconds) s e (t .1) h))
-      (marked (i .seconds) s e (front i ++ tallyBytes (i .checks)) [] secondsAt (t .1) h (length-before i t))
+image-over i s c d t tc td fit kc kd =
+    let j = withTallies (withState s i) (i .checks) (i .seconds) in
+    let k = withTallies (withState s i) (asMarked c) (i .seconds) in
+    let z = withTallies (withState s i) (asMarked c) (asMarked d) in
+    let same = eqb (s .round) (i .state .round) in
+    rw (round-there i t fit, state-written s i t)
+    (ap (λ (bs : List ℕ). tallyOver secondsAt same d (tallyOver checksAt same c bs)) (by-checks j t)
+    ∙ ap (tallyOver secondsAt same d)
+    (tally-over same c (i .checks) (front j) (tallyBytes (i .seconds)) checksAt (t .0) (length-front j t) (λ e. kc (eqb-true _ _ e))
+    ∙ sym (by-checks k (typed-marked c tc, t .1))
+    ∙ by-seconds k (typed-marked c tc, t .1))
+    ∙ tally-over same d (i .seconds) (front k ++ tallyBytes (asMarked c)) [] secondsAt (t .1) (length-before k (typed-marked c tc, t .1))
+    (λ e. kd (eqb-true _ _ e))
+    ∙ sym (by-seconds z (typed-marked c tc, typed-marked d td)))
 
 -- ---- what is read back
 
@@ -214,10 +195,24 @@ tally-there t p q o typed known len =
     ap tallyOf (unpack-part tallyWidths (tallyNumbers t) p q o len (image.tally-fit today sane-today t typed known))
     ∙ image.tally-back today sane-today t typed known
 
-module _ (i : Image) (t : TypedImage i) where
-  pub checks-there : image.AllKnown today sane-today (i .checks .cells) → tallyAt checksAt (imageBytes today i) ≡ i .checks
-  checks-there known = rw (by-checks i t) (tally-there (i .checks) (front i) (tallyBytes (i .seconds)) checksAt (t .0) known (length-front i t))
+module _ (i : Image) (t : TypedImage i) (ok : imageOk today i ≡ true) where
+  facts : ImageFacts today i
+  facts = image-facts today i ok
 
-  pub seconds-there : image.AllKnown today sane-today (i .seconds .cells) → tallyAt secondsAt (imageBytes today i) ≡ i .seconds
-  seconds-there known =
-      rw (by-seconds i t) (tally-there (i .seconds) (front i ++ tallyBytes (i .checks)) [] secondsAt (t .1) known (length-before i t))
+  pub checks-read : checksOf (imageBytes today i) ≡ i .checks
+  unfolding checksOf
+  checks-read =
+      let known = image.known-cells today sane-today false _ _ (i .checks) (facts .checks) (t .0) in
+      rw (eq-eqb _ _ (length-image i t))
+      (ap (λ (bs : List ℕ). asMarked (tallyAt checksAt bs)) (by-checks i t)
+      ∙ ap asMarked (tally-there (i .checks) (front i) (tallyBytes (i .seconds)) checksAt (t .0) known (length-front i t))
+      ∙ as-marked today false _ _ (i .checks) (facts .checks) (t .0))
+
+  pub seconds-read : secondsOf (imageBytes today i) ≡ i .seconds
+  unfolding secondsOf
+  seconds-read =
+      let known = image.known-cells today sane-today (isB (i .settings .engine)) _ _ (i .seconds) (facts .seconds) (t .1) in
+      rw (eq-eqb _ _ (length-image i t))
+      (ap (λ (bs : List ℕ). asMarked (tallyAt secondsAt bs)) (by-seconds i t)
+      ∙ ap asMarked (tally-there (i .seconds) (front i ++ tallyBytes (i .checks)) [] secondsAt (t .1) known (length-before i t))
+      ∙ as-marked today (isB (i .settings .engine)) _ _ (i .seconds) (facts .seconds) (t .1))

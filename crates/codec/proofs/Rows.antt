@@ -16,7 +16,7 @@ Fit [] (v ∷ vs) = ⊥
 Fit (w ∷ ws) [] = ⊥
 Fit (w ∷ ws) (v ∷ vs) = (v < 256 ^ w) × Fit ws vs
 
-pub length-bytesOf : (k x : ℕ) → length (bytesOf k x) ≡ k
+length-bytesOf : (k x : ℕ) → length (bytesOf k x) ≡ k
 unfolding bytesOf
 length-bytesOf zero x = refl
 length-bytesOf (suc k) x = simp (length-append, length-bytesOf k (x / 256)) (add-one k)
@@ -135,11 +135,6 @@ sets-part p a q b o e h =
     let rest : drop (o + length b) (p ++ (a ++ q)) ≡ drop (length b) a ++ q =
     sym (drop-drop (length b) o (p ++ (a ++ q))) ∙ ap (drop (length b)) (drop-at p (a ++ q) o e) ∙ drop-append-le (length b) a q h in
     rw (sets-eq b (p ++ (a ++ q)) o (simp length-append (omega arith)), take-at p (a ++ q) o e, rest)
-
-pub sets-over : (p a q b : List ℕ) (o : ℕ) → length p ≡ o → length b ≡ length a → sets (p ++ (a ++ q)) o b ≡ p ++ (b ++ q)
-sets-over p a q b o e h =
-    let all : length a ≤ length b = omega arith in
-    rw (sets-part p a q b o e (omega arith), drop-of-length-le a all) (append-assoc p b q)
 
 pub packInto-part : (ws vs p a q : List ℕ) (o : ℕ) → length p ≡ o → length a ≡ total ws → length vs ≡ length ws
     → packInto (p ++ (a ++ q)) o ws vs ≡ p ++ (pack ws vs ++ q)

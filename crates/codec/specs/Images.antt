@@ -1,14 +1,13 @@
 -- The bytes of an image. Assumes nothing.
-use Prim.Native.Nat.{ℕ, _+_}
-use mathlib.Core.Path.{_≡_}
-use mathlib.Core.Bool.{cond, _&&_}
+use Prim.Native.Nat.{ℕ, zero, suc, _+_}
+use mathlib.Core.Bool.{Bool, cond, _&&_}
 use lib.Dec.{eqb}
-use mathlib.Core.List.{List, _∷_, _++_, map}
+use mathlib.Core.List.{List, [], _∷_, _++_, map}
 use mathlib.Core.Option.{Option}
 use lib.ListN.{length, getD, take, drop, replicate}
 use Rattle.tally.specs.Limits.{Limits, today, logSize, imageSize, logFields, senders}
 use Rattle.tally.specs.Refusal.{numberOf}
-use Rattle.tally.specs.Tally.{Typed, noMarks}
+use Rattle.tally.specs.Tally.{Typed, held, noMarks}
 use Rattle.tally.specs.declared.Cell.{Cell}
 use Rattle.tally.specs.declared.Engine.{Engine}
 use Rattle.tally.specs.declared.Refusal.{Refusal}
@@ -19,8 +18,8 @@ use Rattle.contents.specs.declared.Log.{Log}
 use Rattle.contents.specs.declared.State.{State}
 use Rattle.codec.specs.Codes.{engineOf, withEngine, codeOf, estimateOf}
 use Rattle.codec.specs.Formats.{Reading, Wrote, Format, rowNumbers, readBytes, toBytes, writeBytes}
-use Rattle.codec.specs.Logs.{logWidths, logZero, logNumbers, logOf, noLog}
-use Rattle.codec.specs.Numbers.{total, unpack}
+use Rattle.codec.specs.Logs.{logWidths, logZero, logNumbers, logOf, noLog, settingsWidths, stateWidths, stateNumbers, roundAt}
+use Rattle.codec.specs.Numbers.{numAt, total, unpack, packInto}
 use Rattle.codec.specs.declared.StateRead.{StateRead}
 
 -- what the code's types say of an image
@@ -117,16 +116,39 @@ tallyAt o bs = tallyOf (unpack o tallyWidths bs)
 unfoldable pub fitState : Reading Image → Log → StateRead
 fitState r l = cond (eqb (r .number) 0 && fits (r .contents) l) (StateRead.Fits (r .contents .state)) StateRead.Unfit
 
--- bytes of any image become those of another
-abbrev pub Rewrites : (Image → Image) → List ℕ → List ℕ → Type 0
-Rewrites f before after = (i : Image) → TypedImage i → before ≡ imageBytes today i → after ≡ imageBytes today (f i)
+-- the k estimates from the sender s on, blank where it is not marked
+unfoldable pub heldFrom : Tally → ℕ → ℕ → List Cell
+heldFrom t s zero = []
+heldFrom t s (suc k) = record { estimate = held t s } ∷ heldFrom t (suc s) k
 
--- an image with one thing replaced
-abbrev pub setState : State → Image → Image
-setState s i = record { settings = i .settings; state = s; checks = i .checks; seconds = i .seconds }
+-- a tally without what stands in unmarked places; of a well-formed one that is nothing
+abbrev pub asMarked : Tally → Tally
+asMarked t = record { marks = t .marks; cells = heldFrom t 0 senders }
 
-abbrev pub setChecks : Tally → Image → Image
-setChecks t i = record { settings = i .settings; state = i .state; checks = t; seconds = i .seconds }
+-- the tallies of an image's bytes; bytes of another length have none
+unfoldable pub checksOf : List ℕ → Tally
+checksOf bs = cond (eqb (length bs) (imageSize today)) (asMarked (tallyAt checksAt bs)) noMarks
 
-abbrev pub setSeconds : Tally → Image → Image
-setSeconds t i = record { settings = i .settings; state = i .state; checks = i .checks; seconds = t }
+unfoldable pub secondsOf : List ℕ → Tally
+secondsOf bs = cond (eqb (length bs) (imageSize today)) (asMarked (tallyAt secondsAt bs)) noMarks
+
+-- a state written at its place
+abbrev pub stateOver : State → List ℕ → List ℕ
+stateOver s bs = packInto bs (total settingsWidths) (stateWidths today) (stateNumbers s)
+
+-- a tally written at the place o, unless the round is the same and the bytes have its marks already
+abbrev pub tallyOver : ℕ → Bool → Tally → List ℕ → List ℕ
+tallyOver o same t bs = cond (same && eqb (t .marks) (numAt bs o 2)) bs (packInto bs o tallyWidths (tallyNumbers (asMarked t)))
+
+-- a state and tallies written over those of an older image
+abbrev pub imageOver : State → Tally → Tally → List ℕ → List ℕ
+imageOver s c d bs =
+    let same = eqb (s .round) (roundAt bs) in
+    tallyOver secondsAt same d (tallyOver checksAt same c (stateOver s bs))
+
+-- both, in a buffer of an image's length; another keeps its bytes
+unfoldable pub storedState : State → List ℕ → List ℕ
+storedState s bs = cond (eqb (length bs) (imageSize today)) (stateOver s bs) bs
+
+unfoldable pub storedOver : State → Tally → Tally → List ℕ → List ℕ
+storedOver s c d bs = cond (eqb (length bs) (imageSize today)) (imageOver s c d bs) bs

@@ -5,7 +5,7 @@ use mathlib.Core.List.{List, [], _∷_}
 use mathlib.Core.Option.{Option}
 use lib.Dec.{eqb}
 use lib.ListN.{getD}
-use Rattle.tally.specs.Limits.{Limits, logSize, logFields}
+use Rattle.tally.specs.Limits.{Limits, today, logSize, logFields}
 use Rattle.tally.specs.Refusal.{numberOf}
 use Rattle.tally.specs.declared.Engine.{Engine}
 use Rattle.tally.specs.declared.Engine.the-variants.{B}
@@ -19,7 +19,7 @@ use Rattle.codec.specs.Codes.{letterOf, engineOf, withEngine, codeOf, es
 use Rattle.codec.specs.Formats.{Reading, reading, Wrote, Format, rowNumbers, readBytes, writeBytes}
 use Rattle.codec.specs.declared.EngineRead.{EngineRead}
 use Rattle.codec.specs.declared.EngineRead.the-variants.{Unknown}
-use Rattle.codec.specs.Numbers.{numAt}
+use Rattle.codec.specs.Numbers.{numAt, total}
 use Rattle.codec.specs.declared.LogRead.{LogRead}
 use Rattle.codec.specs.declared.LogRead.the-variants.{Read, Refused}
 
@@ -105,3 +105,7 @@ settingsNumbers s = letterOf (s .engine) ∷ s .n ∷ s .unit ∷ 0 ∷ s .entry
 
 abbrev pub stateNumbers : State → List ℕ
 stateNumbers s = s .round ∷ codeOf (s .proposal) ∷ codeOf (s .first) ∷ codeOf (s .second) ∷ []
+
+-- the round that a log's or an image's bytes hold
+abbrev pub roundAt : List ℕ → ℕ
+roundAt bs = numAt bs (total settingsWidths) (today .roundWidth)

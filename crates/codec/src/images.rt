@@ -6,25 +6,27 @@ use super::logs;
 use super::numbers;
 use contents::Log;
 use contents::State;
+use tally::Cell;
 use tally::Engine;
 use tally::Estimate;
+use tally::Tally;
 use tally::limits;
 ghost use mathlib.Core.Path.{_≡_};
-ghost use mathlib.Core.Bool.{_&&_};
-ghost use Prim.Native.Nat.{_+_, _-_, _*_, _^_, _≤_, _<_};
-ghost use lib.Bits.{bitOr};
+ghost use mathlib.Core.Bool.{cond, _&&_};
+ghost use mathlib.Core.List.{map};
+ghost use Prim.Native.Nat.{_+_, _*_, _≤_};
 ghost use lib.ListN.{length, replicate};
-ghost use lib.Seq.{sets};
 ghost use Rattle.tally.specs.Limits.{today, imageSize, senders, blankCode};
-ghost use Rattle.tally.specs.Gathered.{lowest, holds, holders, common, leads, firstPassing, majority};
-ghost use Rattle.tally.specs.Tally.{isMarked, placed, gathered, gatheredFrom, mark, noMarks};
-ghost use Rattle.contents.specs.Images.{placesOk, tallyOk, imageOk, fits};
-ghost use Rattle.codec.specs.Codes.{codeOf};
-ghost use Rattle.codec.specs.Numbers.{numAt, bytesOf, total, packInto};
+ghost use Rattle.tally.specs.Tally.{noMarks};
+ghost use Rattle.tally.specs.declared.Estimate.the-variants.{Blank};
+ghost use Rattle.contents.specs.Estimates.{isBlank};
+ghost use Rattle.contents.specs.Images.{every, placeOk, placesOk, tallyOk, imageOk, fits};
+ghost use Rattle.codec.specs.Codes.{codeOf, estimateOf};
+ghost use Rattle.codec.specs.Numbers.{numAt, total, unpack, packInto};
 ghost use Rattle.codec.specs.Formats.{stored};
-ghost use Rattle.codec.specs.Images.{cellWidths, tallyWidths, tallyNumbers};
-ghost use Rattle.codec.specs.Images.{tallyAt, checksAt, secondsAt, withTallies, fitState, Rewrites, setState, setChecks, setSeconds};
-ghost use Rattle.codec.specs.Images.{imageFormat, readImage};
+ghost use Rattle.codec.specs.Images.{cellOf, cellCode, cellWidths, tallyWidths, tallyNumbers, withTallies, imageFormat, readImage};
+ghost use Rattle.codec.specs.Images.{tallyAt, checksAt, secondsAt, fitState, heldFrom, asMarked, checksOf, secondsOf};
+ghost use Rattle.codec.specs.Images.{tallyOver, storedState, storedOver};
 
 // Where the tallies stand, and where a tally's estimates do.
 const AT_CHECKS: usize = limits::LOG_SIZE;
@@ -67,17 +69,52 @@ pub fn store_unmarked(log: Log, out: &mut [u8])
     }
 }
 
-// ---- an image's bytes in place: tested, and written in part
+// ---- the test, in place: only marked places are decoded
+fn is_blank_at(s: &[u8], at: usize) -> bool
+    requires { ⌜ at + 4 ≤ length (now s) ⌝ }
+    ensures { λ r. ⌜ r ≡ isBlank (estimateOf (numAt (now (s .entry)) at 4)) ⌝ }
+{
+    numbers::be32(s, at) == limits::BLANK
+}
+
+// Are all sixteen places blank?
+fn blanks_at(s: &[u8], at: usize) -> bool
+    requires { ⌜ at + total cellWidths ≤ length (now s) ⌝ }
+    ensures { λ r. ⌜ r ≡ every senders (λ u. isBlank (estimateOf (numAt (now (s .entry)) (at + 4 * u) 4))) ⌝ }
+{
+    let mut from = at;
+    let mut ok = true;
+    for k in 0..limits::MAX_UNITS {
+        ok = ok & is_blank_at(s, from);
+        from += 4;
+    }
+    ok
+}
+
+fn place_at(s: &[u8], at: usize, split: bool, n: u8, sender: u8, marked: bool) -> bool
+    requires { ⌜ at + 4 ≤ length (now s) ⌝ }
+    ensures { λ r. ⌜ r ≡ placeOk today split n sender marked (estimateOf (numAt (now (s .entry)) at 4)) ⌝ }
+{
+    if marked {
+        let e = codes::estimate_of(numbers::be32(s, at));
+        contents::images::place_ok(split, n, sender, marked, e)
+    } else {
+        is_blank_at(s, at)
+    }
+}
+
 fn places_at(s: &[u8], at: usize, split: bool, n: u8) -> bool
     requires { ⌜ at + total tallyWidths ≤ length (now s) ⌝ }
     ensures { λ r. ⌜ r ≡ placesOk today split n (tallyAt at (now (s .entry))) ⌝ }
 {
     let marks = numbers::be16(s, at);
+    if marks == 0 {
+        return blanks_at(s, at + AT_CELLS);
+    }
     let mut from = at + AT_CELLS;
     let mut ok = true;
     for k in 0..limits::MAX_UNITS {
-        let e = codes::estimate_of(numbers::be32(s, from));
-        ok = ok & contents::images::place_ok(split, n, k, tally::is_marked(marks, k), e);
+        ok = ok & place_at(s, from, split, n, k, tally::is_marked(marks, k));
         from += 4;
     }
     ok
@@ -138,221 +175,130 @@ pub fn state_for(s: &[u8], log: Log) -> StateRead
     }
 }
 
-// Stores a state in an image.
+// ---- the tallies, read and written: what stands in an unmarked place is left out
+fn held_at(s: &[u8], at: usize, marked: bool) -> Estimate
+    requires { ⌜ at + 4 ≤ length (now s) ⌝ }
+    ensures { λ r. ⌜ r ≡ cond marked (estimateOf (numAt (now (s .entry)) at 4)) Blank ⌝ }
+{
+    if marked {
+        codes::estimate_of(numbers::be32(s, at))
+    } else {
+        Estimate::Blank
+    }
+}
+
+fn cells_at(s: &[u8], at: usize, marks: u16) -> [Cell; limits::SENDERS]
+    requires { ⌜ at + total cellWidths ≤ length (now s) ⌝ }
+    ensures { λ r. ⌜ r ≡ heldFrom (record { marks = marks; cells = map cellOf (unpack at cellWidths (now (s .entry))) }) 0 senders ⌝ }
+{
+    let mut cells = tally::NO_CELLS;
+    let mut from = at;
+    for k in 0..limits::MAX_UNITS {
+        let i = k as usize;
+        let estimate = held_at(s, from, tally::is_marked(marks, k));
+        cells[i] = Cell { estimate };
+        from += 4;
+    }
+    cells
+}
+
+fn tally_at(s: &[u8], at: usize) -> Tally
+    requires { ⌜ at + total tallyWidths ≤ length (now s) ⌝ }
+    ensures { λ r. ⌜ r ≡ asMarked (tallyAt at (now (s .entry))) ⌝ }
+{
+    let marks = numbers::be16(s, at);
+    Tally {
+        marks,
+        cells: cells_at(s, at + AT_CELLS, marks),
+    }
+}
+
+// The CHECKs of an image; bytes of another length have none.
+pub fn checks_of(s: &[u8]) -> Tally
+    ensures { λ r. ⌜ r ≡ checksOf (now (s .entry)) ⌝ }
+{
+    if s.len() == limits::IMAGE_SIZE {
+        tally_at(s, AT_CHECKS)
+    } else {
+        Tally::empty()
+    }
+}
+
+// The SECONDs of an image; bytes of another length have none.
+pub fn seconds_of(s: &[u8]) -> Tally
+    ensures { λ r. ⌜ r ≡ secondsOf (now (s .entry)) ⌝ }
+{
+    if s.len() == limits::IMAGE_SIZE {
+        tally_at(s, AT_SECONDS)
+    } else {
+        Tally::empty()
+    }
+}
+
+fn held_code(marked: bool, e: Estimate) -> u32
+    ensures { λ r. ⌜ r ≡ codeOf (cond marked e Blank) ⌝ }
+{
+    if marked {
+        codes::code_of(e)
+    } else {
+        limits::BLANK
+    }
+}
+
+fn put_cells(t: Tally, out: &mut [u8], at: usize)
+    requires { ⌜ at + total cellWidths ≤ length (now out) ⌝ }
+    ensures { λ _. ⌜ now (out .exit) ≡ packInto (now (out .entry)) at cellWidths (map cellCode (heldFrom t 0 senders)) ⌝ }
+{
+    let mut from = at;
+    for k in 0..limits::MAX_UNITS {
+        let i = k as usize;
+        let c = t.cells[i];
+        let e = c.estimate;
+        numbers::put32(out, from, held_code(tally::is_marked(t.marks, k), e));
+        from += 4;
+    }
+}
+
+fn put_tally(t: Tally, out: &mut [u8], at: usize)
+    requires { ⌜ at + total tallyWidths ≤ length (now out) ⌝ }
+    ensures { λ _. ⌜ now (out .exit) ≡ packInto (now (out .entry)) at tallyWidths (tallyNumbers (asMarked t)) ⌝ }
+{
+    if t.marks == 0 {
+        put_no_marks(out, at);
+    } else {
+        numbers::put16(out, at, t.marks);
+        put_cells(t, out, at + AT_CELLS);
+    }
+}
+
+// A tally is written where its marks or, as `same` says, the round are others than in the bytes.
+fn put_changed(t: Tally, same: bool, out: &mut [u8], at: usize)
+    requires { ⌜ at + total tallyWidths ≤ length (now out) ⌝ }
+    ensures { λ _. ⌜ now (out .exit) ≡ tallyOver at same t (now (out .entry)) ⌝ }
+{
+    if same & (t.marks == numbers::be16(out, at)) {
+        return;
+    }
+    put_tally(t, out, at);
+}
+
+// Stores a state in an image; a buffer of another length keeps its bytes.
 pub fn put_state(s: State, out: &mut [u8])
-    ensures { λ _. ⌜ Rewrites (setState s) (now (out .entry)) (now (out .exit)) ⌝ }
+    ensures { λ _. ⌜ now (out .exit) ≡ storedState s (now (out .entry)) ⌝ }
 {
     if out.len() == limits::IMAGE_SIZE {
         logs::put_state_at(s, out);
     }
 }
 
-// Stores a state in an image, and clears its CHECK marks.
-pub fn put_second(s: State, out: &mut [u8])
-    ensures { λ _. ⌜ Rewrites (λ i. setChecks noMarks (setState s i)) (now (out .entry)) (now (out .exit)) ⌝ }
+// Stores a state and tallies in an image, what is there already left out; a buffer of another length keeps its bytes.
+pub fn put_image(s: State, checks: Tally, seconds: Tally, out: &mut [u8])
+    ensures { λ _. ⌜ now (out .exit) ≡ storedOver s checks seconds (now (out .entry)) ⌝ }
 {
     if out.len() == limits::IMAGE_SIZE {
+        let same = s.round == logs::round_at(out);
         logs::put_state_at(s, out);
-        put_no_marks(out, AT_CHECKS);
-    }
-}
-
-// Marks a sender, with its estimate.
-fn mark_at(out: &mut [u8], at: usize, sender: u8, e: Estimate)
-    requires { ⌜ (at + total tallyWidths ≤ length (now out)) × (sender < senders) ⌝ }
-    ensures { λ _. ⌜ now (out .exit) ≡ sets (sets (now (out .entry)) at (bytesOf 2 (bitOr (numAt (now (out .entry)) at 2) (2 ^ sender))))
-        (at + 2 + 4 * sender) (bytesOf 4 (codeOf e)) ⌝ }
-{
-    let marks = numbers::be16(out, at);
-    let cell = at + AT_CELLS + 4 * (sender as usize);
-    numbers::put16(out, at, tally::with_mark(marks, sender));
-    numbers::put32(out, cell, codes::code_of(e));
-}
-
-pub fn mark_check(out: &mut [u8], sender: u8, e: Estimate)
-    ensures { λ _. ⌜ (sender < senders → Rewrites (λ i. setChecks (mark (i .checks) sender e) i) (now (out .entry)) (now (out .exit))) ⌝ }
-{
-    if out.len() == limits::IMAGE_SIZE {
-        if sender < limits::MAX_UNITS {
-            mark_at(out, AT_CHECKS, sender, e);
-        }
-    }
-}
-
-pub fn mark_second(out: &mut [u8], sender: u8, e: Estimate)
-    ensures { λ _. ⌜ (sender < senders → Rewrites (λ i. setSeconds (mark (i .seconds) sender e) i) (now (out .entry)) (now (out .exit))) ⌝ }
-{
-    if out.len() == limits::IMAGE_SIZE {
-        if sender < limits::MAX_UNITS {
-            mark_at(out, AT_SECONDS, sender, e);
-        }
-    }
-}
-
-// ---- a tally's bytes, counted as the tally is
-fn placed_at(s: &[u8], at: usize, sender: u8) -> Estimate
-    requires { ⌜ (at + total tallyWidths ≤ length (now s)) × (sender < senders) ⌝ }
-    ensures { λ r. ⌜ r ≡ placed (tallyAt at (now (s .entry))) sender ⌝ }
-{
-    let cell = at + AT_CELLS + 4 * (sender as usize);
-    codes::estimate_of(numbers::be32(s, cell))
-}
-
-fn lowest_at(s: &[u8], at: usize) -> Estimate
-    requires { ⌜ at + total tallyWidths ≤ length (now s) ⌝ }
-    ensures { λ r. ⌜ r ≡ lowest (gathered (tallyAt at (now (s .entry)))) ⌝ }
-{
-    let marks = numbers::be16(s, at);
-    for k in 0..limits::MAX_UNITS {
-        let e = placed_at(s, at, k);
-        if tally::is_marked(marks, k) & tally::any_mileage(e) {
-            return e;
-        }
-    }
-    Estimate::Blank
-}
-
-// Is this sender marked, and with the mileage v? Most are not marked, and then the estimate is not read.
-fn holds_at(s: &[u8], at: usize, marks: u16, sender: u8, v: u32) -> bool
-    requires { ⌜ (at + total tallyWidths ≤ length (now s)) × (sender < senders) ⌝ }
-    ensures { λ r. ⌜ r ≡ (isMarked marks sender && holds v (placed (tallyAt at (now (s .entry))) sender)) ⌝ }
-{
-    if tally::is_marked(marks, sender) {
-        tally::holds(placed_at(s, at, sender), v)
-    } else {
-        false
-    }
-}
-
-fn holders_at(s: &[u8], at: usize, v: u32) -> u32
-    requires { ⌜ at + total tallyWidths ≤ length (now s) ⌝ }
-    ensures { λ r. ⌜ r ≡ holders v (gathered (tallyAt at (now (s .entry)))) ⌝ }
-{
-    let marks = numbers::be16(s, at);
-    let mut found: u32 = 0;
-    for k in 0..limits::MAX_UNITS {
-        if holds_at(s, at, marks, k, v) {
-            found += 1;
-        }
-    }
-    found
-}
-
-fn common_at(s: &[u8], at: usize) -> Estimate
-    requires { ⌜ at + total tallyWidths ≤ length (now s) ⌝ }
-    ensures { λ r. ⌜ r ≡ common (gathered (tallyAt at (now (s .entry)))) ⌝ }
-{
-    let marks = numbers::be16(s, at);
-    let low = lowest_at(s, at);
-    match low {
-        Estimate::Blank => Estimate::Split,
-        Estimate::Split => Estimate::Split,
-        Estimate::Mileage(v) => {
-            if holders_at(s, at, v) == u16::count_ones(marks) {
-                low
-            } else {
-                Estimate::Split
-            }
-        }
-    }
-}
-
-fn leads_at(s: &[u8], at: usize, need: u32, e: Estimate) -> bool
-    requires { ⌜ at + total tallyWidths ≤ length (now s) ⌝ }
-    ensures { λ r. ⌜ r ≡ leads need (gathered (tallyAt at (now (s .entry)))) e ⌝ }
-{
-    match e {
-        Estimate::Blank => false,
-        Estimate::Split => false,
-        Estimate::Mileage(v) => need <= holders_at(s, at, v),
-    }
-}
-
-// Is this sender marked, with a mileage that leads?
-fn leader_is(s: &[u8], at: usize, need: u32, sender: u8) -> bool
-    requires { ⌜ (at + total tallyWidths ≤ length (now s)) × (sender < senders) ⌝ }
-    ensures { λ r. ⌜ r ≡ (isMarked (tallyAt at (now (s .entry)) .marks) sender
-        && leads need (gathered (tallyAt at (now (s .entry)))) (placed (tallyAt at (now (s .entry))) sender)) ⌝ }
-{
-    if tally::is_marked(numbers::be16(s, at), sender) {
-        leads_at(s, at, need, placed_at(s, at, sender))
-    } else {
-        false
-    }
-}
-
-// The first estimate, from a unit number on, that leads: a recursion over unit numbers.
-fn leader_at(s: &[u8], at: usize, need: u32, sender: u8) -> Estimate
-    requires { ⌜ (at + total tallyWidths ≤ length (now s)) × (sender ≤ senders) ⌝ }
-    ensures { λ r. ⌜ r ≡ firstPassing (leads need (gathered (tallyAt at (now (s .entry)))))
-        (gatheredFrom (tallyAt at (now (s .entry))) sender (senders - sender)) ⌝ }
-{
-    if sender == limits::MAX_UNITS {
-        return Estimate::Blank;
-    }
-    if leader_is(s, at, need, sender) {
-        return placed_at(s, at, sender);
-    }
-    leader_at(s, at, need, sender + 1)
-}
-
-// What an image's tallies hold; of bytes of another length nothing is said.
-pub fn check_marks(s: &[u8]) -> u16
-    ensures { λ r. ⌜ (length (now (s .entry)) ≡ imageSize today → r ≡ tallyAt checksAt (now (s .entry)) .marks) ⌝ }
-{
-    if s.len() == limits::IMAGE_SIZE {
-        numbers::be16(s, AT_CHECKS)
-    } else {
-        0
-    }
-}
-
-pub fn second_marks(s: &[u8]) -> u16
-    ensures { λ r. ⌜ (length (now (s .entry)) ≡ imageSize today → r ≡ tallyAt secondsAt (now (s .entry)) .marks) ⌝ }
-{
-    if s.len() == limits::IMAGE_SIZE {
-        numbers::be16(s, AT_SECONDS)
-    } else {
-        0
-    }
-}
-
-pub fn common_check(s: &[u8]) -> Estimate
-    ensures { λ r. ⌜ (length (now (s .entry)) ≡ imageSize today → r ≡ common (gathered (tallyAt checksAt (now (s .entry))))) ⌝ }
-{
-    if s.len() == limits::IMAGE_SIZE {
-        common_at(s, AT_CHECKS)
-    } else {
-        Estimate::Blank
-    }
-}
-
-pub fn common_second(s: &[u8]) -> Estimate
-    ensures { λ r. ⌜ (length (now (s .entry)) ≡ imageSize today → r ≡ common (gathered (tallyAt secondsAt (now (s .entry))))) ⌝ }
-{
-    if s.len() == limits::IMAGE_SIZE {
-        common_at(s, AT_SECONDS)
-    } else {
-        Estimate::Blank
-    }
-}
-
-pub fn lowest_second(s: &[u8]) -> Estimate
-    ensures { λ r. ⌜ (length (now (s .entry)) ≡ imageSize today → r ≡ lowest (gathered (tallyAt secondsAt (now (s .entry))))) ⌝ }
-{
-    if s.len() == limits::IMAGE_SIZE {
-        lowest_at(s, AT_SECONDS)
-    } else {
-        Estimate::Blank
-    }
-}
-
-pub fn majority_second(s: &[u8], need: u32) -> Estimate
-    ensures { λ r. ⌜ (length (now (s .entry)) ≡ imageSize today → r ≡ majority need (gathered (tallyAt secondsAt (now (s .entry))))) ⌝ }
-{
-    if s.len() == limits::IMAGE_SIZE {
-        leader_at(s, AT_SECONDS, need, 0)
-    } else {
-        Estimate::Blank
+        put_changed(checks, same, out, AT_CHECKS);
+        put_changed(seconds, same, out, AT_SECONDS);
     }
 }

@@ -10,6 +10,7 @@ use tally::Engine;
 use tally::Estimate;
 use tally::Refusal;
 use tally::limits;
+use tally::limits::Round;
 ghost use mathlib.Core.Path.{_≡_};
 ghost use mathlib.Core.List.{[], _∷_};
 ghost use mathlib.Core.Option.{some};
@@ -20,7 +21,7 @@ ghost use Rattle.tally.specs.Refusal.{numberOf};
 ghost use Rattle.codec.specs.Numbers.{total, packInto};
 ghost use Rattle.codec.specs.Codes.{codeOf};
 ghost use Rattle.codec.specs.Formats.{withZero, wrote, checked, stored};
-ghost use Rattle.codec.specs.Logs.{settingsWidths, stateWidths, stateNumbers};
+ghost use Rattle.codec.specs.Logs.{settingsWidths, stateWidths, stateNumbers, roundAt};
 ghost use Rattle.codec.specs.Logs.{logWidths, logZero, engineAt, logOf, logRow, logNumbers, logFormat, logReading, readLog, writeLog};
 
 // Where the fields stand, after the engine letter.
@@ -103,6 +104,14 @@ fn put_three(out: &mut [u8], at: usize, a: Estimate, b: Estimate, c: Estimate)
     numbers::put32(out, at, codes::code_of(a));
     numbers::put32(out, at + 4, codes::code_of(b));
     numbers::put32(out, at + 4 + 4, codes::code_of(c));
+}
+
+// The round of a log or an image.
+pub(crate) fn round_at(s: &[u8]) -> Round
+    requires { ⌜ logSize today ≤ length (now s) ⌝ }
+    ensures { λ r. ⌜ r ≡ roundAt (now (s .entry)) ⌝ }
+{
+    numbers::round_at(s, AT_ROUND)
 }
 
 // The state of a log or an image.

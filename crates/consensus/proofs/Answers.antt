@@ -7,7 +7,7 @@ use Rattle.tally.specs.declared.Refusal.{Refusal}
 use Rattle.contents.specs.declared.Message.{Message}
 use Rattle.consensus.specs.Methods.{proposeRows, propose, deliverRows, deliver}
 use Rattle.consensus.specs.Step.{logWrite, atRound, sendFirst, proposed, takeFirst, takeSecond, checksWith, close, secondsWith, onKind, skip, received}
-use Rattle.consensus.specs.Units.{unitLog}
+use Rattle.consensus.specs.Units.{unitLog, unitImage}
 use Rattle.consensus.specs.declared.Answer.{Answer}
 use Rattle.consensus.specs.declared.Unit as U
 use Rattle.consensus.proofs.Branches.{by-round, by-kind, by-check, by-second, by-unless}
@@ -58,3 +58,11 @@ proposed-keeps u v = (refl, refl)
 pub propose-keeps : (l : Limits) (u : U.Unit) (v : ℕ) → Keeps u (propose l u v)
 unfolding propose
 propose-keeps l u v = by-unless (Keeps u) (proposeRows l u v) u (proposed u v) (proposed-keeps u v) (λ k. (refl, refl))
+
+-- and leaves all of an image but its state
+pub propose-image : (l : Limits) (u : U.Unit) (v : ℕ)
+    → unitImage (propose l u v .unit) ≡ record { settings = u .settings; state = propose l u v .unit .current; checks = u .checks; seconds = u .seconds }
+unfolding propose proposed sendFirst
+propose-image l u v =
+    by-unless (λ a. unitImage (a .unit) ≡ record { settings = u .settings; state = a .unit .current; checks = u .checks; seconds = u .seconds })
+    (proposeRows l u v) u (proposed u v) refl (λ k. refl)

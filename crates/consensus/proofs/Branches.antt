@@ -1,16 +1,14 @@
 -- What holds of each branch's answer holds of the step's. Assumes nothing.
-use Prim.Native.Nat.{ℕ, _%_, _^_, _≤_, _<_}
-use mathlib.Core.Path.{_≡_, refl, ap}
+use Prim.Native.Nat.{_≤_, _<_}
+use mathlib.Core.Path.{_≡_, refl}
 use mathlib.Core.Bool.{Bool, true, false, cond, not, _&&_}
 use mathlib.Core.List.{List, [], _∷_}
 use native.Mathlib.Omega.{arith}
-use native.Mathlib.Nat.{zero-div}
 use lib.Dec.{eqb, ltb}
 use borrow.Author.Tests.{ltb-true, ltb-false, not-true}
 use Rattle.tally.specs.Gathered.{common}
 use Rattle.tally.specs.Refusal.{numberOf}
-use Rattle.tally.specs.Tally.{isMarked, held, noMarks, gathered}
-use Rattle.tally.specs.declared.Estimate.the-variants.{Blank}
+use Rattle.tally.specs.Tally.{isMarked, gathered}
 use Rattle.tally.specs.declared.Refusal.{Refusal}
 use Rattle.tally.specs.declared.Tally.{Tally}
 use Rattle.tally.proofs.Count.{Each}
@@ -90,13 +88,3 @@ module _ (P : Answer → Type 0) where
           → P (cond (eqb (numberOf (cond b (r .refusal) (firstOf rs))) 0) a (refuses u (cond b (r .refusal) (firstOf rs))))
       go true e ih = rw (each .0) (refused (r .refusal))
       go false e ih = ih (λ h. accepted (e, h))
-
--- ---- no marks
-
-pub unmarked-none : (s : ℕ) → isMarked 0 s ≡ false
-unmarked-none s = ap (λ (x : ℕ). eqb (x % 2) 1) (zero-div (2 ^ s))
-
--- no sender is marked
-pub held-none : (s : ℕ) → held noMarks s ≡ Blank
-unfolding held noMarks
-held-none s = rw (unmarked-none s)

@@ -21,7 +21,7 @@ use Rattle.tally.specs.declared.Estimate.the-variants.{Blank, Split, Mileage}
 use Rattle.tally.specs.declared.Tally.{Tally}
 use Rattle.tally.proofs.Count.{count-mono, count-below, each}
 use Rattle.tally.proofs.Gathered.{all-counted, common-all, lowest-held, lowest-none, majority-held, majority-found, others-block, found}
-use Rattle.tally.proofs.Marks.{mark-other}
+use Rattle.tally.proofs.Marks.{mark-other, unmarked-none}
 use Rattle.tally.proofs.Never.{never}
 use Rattle.tally.proofs.Quorums.{majority-over-half}
 use Rattle.tally.proofs.Tallies.{passing-senders, length-gathered, holders-senders, ones-units, typed-mark, placed-same, placed-other, typed-empty}
@@ -32,7 +32,6 @@ use Rattle.contents.proofs.Tests.{both-true}
 use Rattle.consensus.specs.Step.{nextProposal}
 use Rattle.consensus.specs.Units.{WellFormed, unitLog, unitImage}
 use Rattle.consensus.specs.declared.Unit as U
-use Rattle.consensus.proofs.Branches.{unmarked-none}
 
 -- only units below n are marked, none with blank
 pub record Proper (n : ℕ) (t : Tally) : Type 0 where

@@ -13,7 +13,7 @@ use Rattle.tally.specs.Tally.{Typed, isMarked, placed, blankCell, noMarks, mark
 use Rattle.tally.specs.declared.Engine.{Engine}
 use Rattle.tally.specs.declared.Estimate.{Estimate}
 use Rattle.tally.specs.declared.Tally.{Tally}
-use Rattle.tally.proofs.Marks.{mark-same, mark-other}
+use Rattle.tally.proofs.Marks.{mark-same, mark-other, unmarked-none}
 use Rattle.tally.proofs.Quorums.{quorum-fits}
 use Rattle.tally.proofs.Tallies.{typed-empty, placed-same, placed-other}
 use Rattle.contents.specs.Estimates.{isB, isBlank, isSplit, isMileage, mileageOrBlank, secondFits}
@@ -29,7 +29,6 @@ use Rattle.consensus.specs.Step.{atRound, clean}
 use Rattle.consensus.specs.Units.{WellFormed, unitImage, atLog}
 use Rattle.consensus.specs.declared.Power.{Power}
 use Rattle.consensus.specs.declared.Unit as U
-use Rattle.consensus.proofs.Branches.{unmarked-none}
 
 -- ---- tests that are passed, from facts
 

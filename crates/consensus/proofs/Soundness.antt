@@ -20,7 +20,7 @@ use Rattle.tally.specs.declared.Estimate.the-variants.{Blank, Split, Mileage}
 use Rattle.tally.specs.declared.Refusal.{Refusal}
 use Rattle.tally.specs.declared.Tally.{Tally}
 use Rattle.tally.proofs.Count.{Each}
-use Rattle.tally.proofs.Marks.{mark-adds}
+use Rattle.tally.proofs.Marks.{mark-adds, unmarked-none}
 use Rattle.tally.proofs.Never.{never}
 use Rattle.tally.proofs.Quorums.{quorum-fits}
 use Rattle.tally.proofs.Tallies.{typed-mark}
@@ -49,7 +49,7 @@ use Rattle.consensus.specs.declared.Power.{Power}
 use Rattle.consensus.specs.declared.Power.the-variants.{Down, Up}
 use Rattle.consensus.specs.declared.Unit as U
 use Rattle.consensus.proofs.Addressee.{passes-mine}
-use Rattle.consensus.proofs.Branches.{unmarked-none, by-kind, by-check, by-second, by-round, by-rows}
+use Rattle.consensus.proofs.Branches.{by-kind, by-check, by-second, by-round, by-rows}
 use Rattle.consensus.proofs.Parts.{Parts, parts, well, and-both, or-first, states-same, Vote, Places, places-mark, Tallied, tallied-none}
 use Rattle.consensus.proofs.Parts.{no-checks, parts-at-round, parts-at-log, well-at-log}
 use Rattle.consensus.proofs.Votes.{votes, common-vote, next-proposal, decided-blank}

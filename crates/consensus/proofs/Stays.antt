@@ -10,6 +10,7 @@ use Rattle.tally.specs.declared.Estimate.{Estimate}
 use Rattle.tally.specs.declared.Tally.{Tally}
 use Rattle.tally.proofs.Marks.{mark-same}
 use Rattle.tally.proofs.Never.{never}
+use Rattle.tally.proofs.Tallies.{held-unmarked}
 use Rattle.contents.specs.Estimates.{isBlank}
 use Rattle.contents.specs.declared.Kind.{Kind}
 use Rattle.contents.specs.declared.Message.{Message}
@@ -17,7 +18,7 @@ use Rattle.contents.specs.declared.State.{State}
 use Rattle.consensus.specs.Step.{logWrite, atRound, takeFirst, takeSecond, checksWith, secondsWith, close, onKind, skip, caughtUp, received}
 use Rattle.consensus.specs.declared.Answer.{Answer}
 use Rattle.consensus.specs.declared.Unit as U
-use Rattle.consensus.proofs.Branches.{by-kind, by-check, by-second, by-round, unmarked-none}
+use Rattle.consensus.proofs.Branches.{by-kind, by-check, by-second, by-round}
 
 -- an estimate that is not blank stays
 abbrev pub Kept : Estimate → Estimate → Type 0
@@ -85,8 +86,8 @@ held-marked t s e new same = never (sym new ∙ ap (λ (m : ℕ). isMarked m s) 
 
 -- where no marks were, nothing was held
 held-cleared : (t : Tally) → SameHeld t noMarks
-unfolding held noMarks
-held-cleared t same s = rw (← same, unmarked-none s)
+unfolding noMarks
+held-cleared t same s = held-unmarked noMarks refl s ∙ sym (held-unmarked t (sym same) s)
 
 abbrev pub Tallies : U.Unit → U.Unit → Type 0
 Tallies u v = v .current .round ≡ u .current .round → SameHeld (u .checks) (v .checks) × SameHeld (u .seconds) (v .seconds)
@@ -102,9 +103,9 @@ tallies-kind k u m =
       nothing = same;
       first = λ _ _. same;
       checks = λ _ _ new. by-check (TalliesTo u) u _ (λ _ e. (held-cleared (u .checks), same-held (u .seconds)))
-      (λ _ e. (held-marked (u .checks) (m .sender) (m .estimate) new, same-held (u .seconds)));
+          (λ _ e. (held-marked (u .checks) (m .sender) (m .estimate) new, same-held (u .seconds)));
       seconds = λ _ new. by-second (TalliesTo u) u _ (λ _ e. absurd (omega arith))
-      (λ _ e. (same-held (u .checks), held-marked (u .seconds) (m .sender) (m .estimate) new));
+          (λ _ e. (same-held (u .checks), held-marked (u .seconds) (m .sender) (m .estimate) new));
     })
   where
     same : Tallies u u

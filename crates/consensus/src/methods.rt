@@ -29,7 +29,7 @@ pub fn is_up(power: Power) -> bool
 }
 
 // Another engine, n, entry or receiver?
-pub fn for_other(s: Settings, m: Message) -> bool
+fn for_other(s: Settings, m: Message) -> bool
     ensures { λ r. ⌜ r ≡ forOther s m ⌝ }
 {
     let engine = s.engine;
@@ -40,13 +40,13 @@ pub fn for_other(s: Settings, m: Message) -> bool
         & ((m.receiver == limits::EVERYONE) | (m.receiver == s.unit)))
 }
 
-pub fn out_of_range(mileage: u32) -> bool
+fn out_of_range(mileage: u32) -> bool
     ensures { λ r. ⌜ r ≡ outOfRange today mileage ⌝ }
 {
     !estimates::in_range(mileage)
 }
 
-pub fn is_second(kind: Kind) -> bool
+fn is_second(kind: Kind) -> bool
     ensures { λ r. ⌜ r ≡ isSecond kind ⌝ }
 {
     match kind {
@@ -89,7 +89,7 @@ impl Unit {
     }
 
     // A delivery whose caller has read the message, and found it to be for this unit, which is up: 7 is the one refusal left.
-    pub fn deliver_read(self, m: Message) -> Answer
+    fn deliver_read(self, m: Message) -> Answer
         requires { ⌜ messageOk today m ≡ true ⌝ }
         ensures { λ r. ⌜ r ≡ deliverRead today self m ⌝ }
     {

@@ -39,7 +39,7 @@ pub const EMPTY: Message = Message {
 };
 
 // The state at the beginning of a round.
-pub fn clean(round: Round, proposal: Estimate) -> State
+fn clean(round: Round, proposal: Estimate) -> State
     ensures { λ r. ⌜ r ≡ clean round proposal ⌝ }
 {
     State {
@@ -51,14 +51,14 @@ pub fn clean(round: Round, proposal: Estimate) -> State
 }
 
 // The first where it is not blank, else the second.
-pub fn or_if_blank(a: Estimate, b: Estimate) -> Estimate
+fn or_if_blank(a: Estimate, b: Estimate) -> Estimate
     ensures { λ r. ⌜ r ≡ orIfBlank a b ⌝ }
 {
     if estimates::is_blank(a) { b } else { a }
 }
 
 // A first estimate goes out as CHECK in B and as SECOND in R.
-pub fn vote_kind(engine: Engine) -> Kind
+fn vote_kind(engine: Engine) -> Kind
     ensures { λ r. ⌜ r ≡ voteKind engine ⌝ }
 {
     match engine {
@@ -67,7 +67,7 @@ pub fn vote_kind(engine: Engine) -> Kind
     }
 }
 
-pub fn vote_proposal(engine: Engine, e: Estimate, own: Estimate) -> Estimate
+fn vote_proposal(engine: Engine, e: Estimate, own: Estimate) -> Estimate
     ensures { λ r. ⌜ r ≡ voteProposal engine e own ⌝ }
 {
     match engine {
@@ -77,7 +77,7 @@ pub fn vote_proposal(engine: Engine, e: Estimate, own: Estimate) -> Estimate
 }
 
 // A mileage that all hold is decided.
-pub fn decided(e: Estimate) -> Estimate
+fn decided(e: Estimate) -> Estimate
     ensures { λ r. ⌜ r ≡ decided e ⌝ }
 {
     match e {

@@ -1,22 +1,20 @@
 -- What the code of the four calls meets on its way: what is refused, and what is stored. Assumes nothing.
 use Prim.Native.Nat.{ℕ, _<_, _^_}
-use mathlib.Core.Path.{_≡_, refl, sym, ap, _∙_}
+use mathlib.Core.Path.{_≡_, refl, sym, _∙_}
 use mathlib.Core.Bool.{Bool, true, false, not, _&&_, _||_}
 use mathlib.Core.List.{List}
 use native.Mathlib.Omega.{arith}
 use lib.Dec.{ltb}
 use lib.ListN.{length}
 use borrow.Author.Tests.{eqb-true, lt-ltb, ltb-true, not-false}
-use Rattle.tally.specs.Limits.{Limits, Sane, blankCode, logSize, imageSize, messageSize}
+use Rattle.tally.specs.Limits.{Limits, Sane, logSize, imageSize, messageSize}
 use Rattle.tally.specs.Refusal.{numberOf}
 use Rattle.tally.specs.declared.Refusal.{Refusal}
 use Rattle.tally.proofs.Bounds.{entry-fits, units-fit, everyone-fits}
 use Rattle.tally.proofs.Never.{never}
 use Rattle.contents.specs.Logs.{numbersOk}
-use Rattle.contents.specs.Messages.{messageOk}
 use Rattle.contents.specs.declared.Image.{Image}
 use Rattle.contents.specs.declared.Log.{Log}
-use Rattle.contents.specs.declared.Message.{Message}
 use Rattle.contents.proofs.Facts.{numbers-facts}
 use Rattle.contents.proofs.Tests.{both-true}
 use Rattle.codec.specs.Codes.{engineOf}
@@ -29,15 +27,10 @@ use Rattle.codec.specs.declared.EngineRead.the-variants.{Is, Unknown}
 use Rattle.codec.proofs.Letters.{letter-engine, letter-fits}
 use Rattle.codec.proofs.LogFormat as log
 use Rattle.codec.proofs.MessageFormat as message
-use Rattle.codec.proofs.RoundTrips.{read-fields, refused-number}
+use Rattle.codec.proofs.RoundTrips.{refused-number}
 use Rattle.codec.proofs.Steps.{stored-contents}
-use Rattle.consensus.specs.Methods.{forOther, outOfRange, closesLast}
-use Rattle.consensus.specs.Rows.{row, firstOf}
-use Rattle.consensus.specs.Step.{proposed, received}
-use Rattle.consensus.specs.Units.{unitImage}
-use Rattle.consensus.proofs.Answers.{plain-received}
-use Rattle.mileage.specs.Calls.{Called, called, answered, wrongLength, unitLengths, badLog, badSettings, badImage, badMessage, logBytes, messageBytes}
-use Rattle.mileage.specs.Calls.{unitOf, proposeCallRows, proposeCall, deliverCallRows, deliverCall, settingsNarrow}
+use Rattle.mileage.specs.Calls.{wrongLength, unitLengths, badLog, badSettings, badMessage, logBytes}
+use Rattle.mileage.specs.Calls.{settingsNarrow}
 
 neither : (a b : Bool) → (a || b) ≡ false → (a ≡ false) × (b ≡ false)
 neither false false e = (refl, refl)
@@ -101,11 +94,6 @@ module _ (l : Limits) (sane : Sane l) (bs : List ℕ) where
   unfolding badMessage readMessage
   message-refused k e = rw (← e, refused-number (messageFormat l) (λ m. Unit) (message.lawful l sane) bs (numberOf k) (sym e))
 
-  -- a message that was read is well formed
-  pub message-ok : (m : Message) → reading 0 m ≡ readMessage l bs → messageOk l m ≡ true
-  unfolding readMessage
-  message-ok m e = read-fields (messageFormat l) (λ m. Unit) (message.lawful l sane) bs m (sym e) .0
-
 module _ (l : Limits) where
   -- ---- lengths
 
@@ -132,34 +120,7 @@ module _ (l : Limits) where
   unfolding imageBytes
   image-stored i bs e = stored-contents (imageFormat l) bs i e
 
-  -- ---- a proposal
-
-  -- where no row holds, the call is the proposal's image and message
-  pub propose-stored : (log image out : List ℕ) (v : ℕ) → (unitLengths l log image || wrongLength out (messageSize l)) ≡ false
-      → badLog l log ≡ false → badImage l log image ≡ false → outOfRange l v ≡ false → (image2 out2 : List ℕ)
-      → image2 ≡ imageBytes l (unitImage (proposed (unitOf l log image) v .unit))
-      → out2 ≡ messageBytes l (proposed (unitOf l log image) v .message .kind) (proposed (unitOf l log image) v .message)
-      → called 0 log image2 out2 blankCode ≡ proposeCall l log image v out
-  unfolding proposeCall proposeCallRows firstOf
-  propose-stored log image out v right read fit range image2 out2 i o = rw (right, read, fit, range, i, o)
-
-  -- ---- a delivery
-
   pub deliver-size : (log image message out : List ℕ)
       → (unitLengths l log image || wrongLength message (messageSize l) || wrongLength out (messageSize l)) ≡ false → length out ≡ messageSize l
   deliver-size log image message out e =
       size out (messageSize l) (neither (unitLengths l log image || wrongLength message (messageSize l)) (wrongLength out (messageSize l)) e .1)
-
-  -- where no row holds, the call is the step's answer
-  pub deliver-stored : (log image message out : List ℕ) (m : Message)
-      → (unitLengths l log image || wrongLength message (messageSize l) || wrongLength out (messageSize l)) ≡ false
-      → badLog l log ≡ false → badImage l log image ≡ false → reading 0 m ≡ readMessage l message
-      → forOther (unitOf l log image .settings) m ≡ false → closesLast l (unitOf l log image) m ≡ false
-      → (c : Called) → c ≡ answered l (received (unitOf l log image) m) → c ≡ deliverCall l log image message out
-  unfolding deliverCall deliverCallRows firstOf badMessage
-  deliver-stored log image message out m right read fit e for last c h =
-      rw (right, read, fit, ← e, for, last)
-      (h ∙ ap (λ k. called (numberOf k) (a .log) (a .image) (a .out) (a .decision)) (plain-received (unitOf l log image) m .none))
-    where
-      a : Called
-      a = answered l (received (unitOf l log image) m)

@@ -11,6 +11,7 @@ use Rattle.tally.proofs.Bounds.{sane-today}
 use Rattle.tally.proofs.Never.{never}
 use Rattle.contents.specs.Images.{imageOk, fits}
 use Rattle.contents.specs.Logs.{logOk}
+use Rattle.contents.specs.Messages.{messageOk}
 use Rattle.contents.specs.declared.Image.{Image}
 use Rattle.contents.specs.declared.Log.{Log}
 use Rattle.contents.specs.declared.Message.{Message}
@@ -18,18 +19,23 @@ use Rattle.contents.specs.declared.Settings.{Settings}
 use Rattle.contents.specs.declared.State.{State}
 use Rattle.contents.proofs.Same.{same-settings}
 use Rattle.contents.proofs.Tests.{both-true}
-use Rattle.codec.specs.Formats.{Reading, reading}
-use Rattle.codec.specs.Images.{TypedImage, imageFormat, imageBytes, readImage, fitState}
+use Rattle.codec.specs.Formats.{Reading, reading, toBytes}
+use Rattle.codec.specs.Images.{TypedImage, imageFormat, imageBytes, readImage, fitState, checksOf, secondsOf}
 use Rattle.codec.specs.Logs.{logFormat, readLog}
-use Rattle.codec.specs.Messages.{emptyBytes, cleared}
+use Rattle.codec.specs.Messages.{messageFormat, readMessage, emptyBytes, cleared}
 use Rattle.codec.specs.Numbers.{Bytes}
 use Rattle.codec.specs.declared.StateRead.{StateRead}
 use Rattle.codec.proofs.ImageFormat as images
 use Rattle.codec.proofs.LogFormat as logs
+use Rattle.codec.proofs.MessageFormat as messages
+use Rattle.codec.proofs.Places.{checks-read, seconds-read}
 use Rattle.codec.proofs.RoundTrips.{written-read}
-use Rattle.consensus.specs.Methods.{forOther}
-use Rattle.consensus.specs.Units.{unitLog, unitImage, upUnit}
-use Rattle.mileage.specs.Calls.{Holds, badLog, badImage, logBytes, unitOf}
+use Rattle.consensus.specs.Methods.{propose, deliver}
+use Rattle.consensus.specs.Units.{WellFormed, unitLog, unitImage, upUnit}
+use Rattle.consensus.specs.declared.Power.the-variants.{Up}
+use Rattle.consensus.specs.declared.Unit as U
+use Rattle.mileage.specs.Calls.{answered, badLog, badImage, logBytes, unitOf, proposeCall, deliverCall}
+use Rattle.mileage.proofs.Encoded.{propose-encoded, deliver-encoded}
 
 -- contents that were read with the number 0
 pub was-read : {A : Type 0} (r : Reading A) → eqb (r .number) 0 ≡ true → r ≡ reading 0 (r .contents)
@@ -52,6 +58,11 @@ image-back : (image : List ℕ) (i : Image) → Bytes image → readImage today 
 unfolding readImage imageBytes
 image-back image i b e = written-read (imageFormat today) TypedImage (images.lawful today sane-today) image i b e
 
+message-back : (bs : List ℕ) (m : Message) → Bytes bs → readMessage today bs ≡ reading 0 m
+    → (messageOk today m ≡ true) × (toBytes (messageFormat today) m ≡ bs)
+unfolding readMessage
+message-back bs m b e = written-read (messageFormat today) (λ m. Unit) (messages.lawful today sane-today) bs m b e
+
 -- a buffer that was cleared is an empty message
 pub cleared-empty : (out out2 : List ℕ) → out2 ≡ cleared today out → length out ≡ messageSize today → out2 ≡ emptyBytes today
 unfolding cleared
@@ -61,16 +72,15 @@ pub log-good : (log : List ℕ) (r : Log) → reading 0 r ≡ readLog today log 
 unfolding badLog
 log-good log r read = rw (← read)
 
--- a message's addressee is tested against the log that was read
-pub for-read : (log : List ℕ) (r : Log) (m : Message) (b : Bool) → reading 0 r ≡ readLog today log → forOther (r .settings) m ≡ b
-    → forOther (readLog today log .contents .settings) m ≡ b
-for-read log r m b read h = rw (← read) h
+-- bytes that hold a well-formed up unit
+pub record Held (log image : List ℕ) (u : U.Unit) : Type 0 where
+  pub well-formed : WellFormed today u
+  pub up : u .power ≡ Up
+  pub log-bytes : log ≡ logBytes today (unitLog u)
+  pub image-bytes : image ≡ imageBytes today (unitImage u)
 
 -- a log that was read
 module _ (log image : List ℕ) (r : Log) (read : reading 0 r ≡ readLog today log) where
-  pub log-there : Bytes log → log ≡ logBytes today (unitLog (unitOf today log image))
-  log-there b = rw (← read) (sym (log-back log r b (sym read) .1))
-
   abbrev test : Bool
   test = eqb (readImage today image .number) 0 && fits (readImage today image .contents) r
 
@@ -98,24 +108,60 @@ module _ (log image : List ℕ) (r : Log) (read : reading 0 r ≡ readLog today 
     unfolding badImage
     image-good = rw (← read, tested .0)
 
-    pub held : Bytes log → Bytes image → Holds (unitOf today log image) (record { settings = r .settings; state = s }) image
-    held lb b =
-        let i = readImage today image .contents in
-        let t = both-true (eqb (readImage today image .number) 0) (fits i r) (tested .0) in
-        let there = was-read (readImage today image) (t .0) in
-        let same = fit-image i r (t .1) in
-        let back = image-back image i b there in
-        let typed = images.read-typed today sane-today image i b there in
-        rw (← read)
-        (record {
-          well-formed =
-              record {
-                log = log-back log r lb (sym read) .0;
-                image = ap (imageOk today) same ∙ back .0;
-                fit = ap (λ (x : Image). fits x r) same ∙ t .1;
-                checks = typed .0;
-                seconds = typed .1;
-              };
-          begins = ap (λ (x : State). record { settings = r .settings; state = x }) (tested .1);
-          bytes = sym (ap (imageBytes today) same ∙ back .1);
-        })
+    module _ (b : Bytes image) where
+      i : Image
+      i = readImage today image .contents
+
+      there : (eqb (readImage today image .number) 0 ≡ true) × (fits i r ≡ true)
+      unfolding i
+      there = both-true (eqb (readImage today image .number) 0) (fits i r) (tested .0)
+
+      back : (imageOk today i ≡ true) × (imageBytes today i ≡ image)
+      unfolding i
+      back = image-back image i b (was-read (readImage today image) (there .0))
+
+      typed : TypedImage i
+      unfolding i
+      typed = images.read-typed today sane-today image i b (was-read (readImage today image) (there .0))
+
+      -- the unit that is made of what was read is the one that the bytes hold
+      pub unit-read : upUnit r (record { settings = r .settings; state = s; checks = checksOf image; seconds = secondsOf image }) ≡ unitOf today log image
+      unfolding i
+      unit-read =
+          rw (
+            ← read,
+            tested .1,
+            ap checksOf (sym (back .1)) ∙ checks-read i typed (back .0),
+            ap secondsOf (sym (back .1)) ∙ seconds-read i typed (back .0),
+          )
+
+      pub held : Bytes log → Held log image (unitOf today log image)
+      unfolding i
+      held lb =
+          let same = fit-image i r (there .1) in
+          rw (← read)
+          (record {
+            well-formed =
+                record {
+                  log = log-back log r lb (sym read) .0;
+                  image = ap (imageOk today) same ∙ back .0;
+                  fit = ap (λ (x : Image). fits x r) same ∙ there .1;
+                  checks = typed .0;
+                  seconds = typed .1;
+                };
+            up = refl;
+            log-bytes = sym (log-back log r lb (sym read) .1);
+            image-bytes = sym (ap (imageBytes today) same ∙ back .1);
+          })
+
+-- ---- the calls of a unit that is held are its methods, as bytes
+
+module _ (log image : List ℕ) (u : U.Unit) (h : Held log image u) (out : List ℕ) (size : length out ≡ messageSize today) where
+  pub propose-held : (v : ℕ) → answered today (propose today u v) ≡ proposeCall today log image v out
+  propose-held v = rw (h .log-bytes, h .image-bytes) (sym (propose-encoded today sane-today u (h .well-formed) (h .up) v out size))
+
+  pub deliver-held : (message : List ℕ) (m : Message) → Bytes message → reading 0 m ≡ readMessage today message
+      → answered today (deliver today u m) ≡ deliverCall today log image message out
+  deliver-held message m b e =
+      let back = message-back message m b (sym e) in
+      rw (h .log-bytes, h .image-bytes, ← back .1) (sym (deliver-encoded today sane-today u (h .well-formed) (h .up) m out (back .0) size))

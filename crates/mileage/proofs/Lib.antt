@@ -2,7 +2,7 @@ pub mod Rows
 pub mod Entries
 pub mod Held
 pub mod Encoded
-pub mod Written
+pub mod Stored
 pub mod Unwritten
 pub mod Unread
 pub mod Examples

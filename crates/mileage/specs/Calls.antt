@@ -5,12 +5,13 @@ use mathlib.Core.List.{List, [], _∷_}
 use mathlib.Core.Path.{_≡_}
 use lib.Dec.{eqb, ltb}
 use lib.ListN.{length}
-use Rattle.tally.specs.Limits.{Limits, today, blankCode, logSize, imageSize, messageSize}
+use Rattle.tally.specs.Limits.{Limits, blankCode, logSize, imageSize, messageSize}
 use Rattle.tally.specs.Refusal.{numberOf}
 use Rattle.tally.specs.declared.Engine.the-variants.{B}
 use Rattle.tally.specs.declared.Refusal.{Refusal}
-use Rattle.contents.specs.Images.{imageLog, fits}
+use Rattle.contents.specs.Images.{fits}
 use Rattle.contents.specs.Logs.{numbersOk}
+use Rattle.contents.specs.Messages.{isEmpty}
 use Rattle.contents.specs.declared.Image.{Image}
 use Rattle.contents.specs.declared.Kind.{Kind}
 use Rattle.contents.specs.declared.Kind.the-variants.{Empty, First, Check, Second, Skip}
@@ -19,7 +20,7 @@ use Rattle.contents.specs.declared.Message.{Message}
 use Rattle.contents.specs.declared.Settings.{Settings}
 use Rattle.codec.specs.Codes.{engineOf, codeOf}
 use Rattle.codec.specs.Formats.{Reading, toBytes, stored}
-use Rattle.codec.specs.Images.{readImage, imageBytes}
+use Rattle.codec.specs.Images.{readImage, imageBytes, storedState, storedOver}
 use Rattle.codec.specs.Logs.{logFormat, readLog}
 use Rattle.codec.specs.Messages.{messageFormat, readMessage, emptyBytes, cleared}
 use Rattle.codec.specs.declared.EngineRead.{EngineRead}
@@ -27,7 +28,7 @@ use Rattle.codec.specs.declared.EngineRead.the-variants.{Is, Unknown}
 use Rattle.consensus.specs.Methods.{forOther, outOfRange, closesLast}
 use Rattle.consensus.specs.Rows.{Row, row, firstOf, Lowest}
 use Rattle.consensus.specs.Step.{fresh, recovered, proposed, received}
-use Rattle.consensus.specs.Units.{unitLog, unitImage, upUnit, downUnit, WellFormed}
+use Rattle.consensus.specs.Units.{unitLog, unitImage, upUnit, downUnit}
 use Rattle.consensus.specs.declared.Answer.{Answer}
 use Rattle.consensus.specs.declared.Unit as U
 
@@ -181,8 +182,21 @@ pub record Refusing (l : Limits) (rows : List Row) (log image out : List ℕ) (c
 unfoldable pub settingsNarrow : ℕ → ℕ → ℕ → ℕ → Bool
 settingsNarrow engine n unit entry = ltb engine (256 ^ 1) && ltb n (256 ^ 1) && ltb unit (256 ^ 1) && ltb entry (256 ^ 2)
 
--- the bytes of a well-formed unit's image, which begins with `front`
-pub record Holds (u : U.Unit) (front : Log) (image : List ℕ) : Type 0 where
-  pub well-formed : WellFormed today u
-  pub begins : imageLog (unitImage u) ≡ front
-  pub bytes : image ≡ imageBytes today (unitImage u)
+-- an empty message leaves the buffer
+unfoldable pub storedMessage : Limits → Message → List ℕ → List ℕ
+storedMessage l m out = cond (isEmpty (m .kind)) out (stored (messageFormat l) m out)
+
+-- a proposal that refuses nothing is stored: of the image its state alone, and no log
+unfoldable pub storedProposal : Limits → Answer → List ℕ → List ℕ → Called
+storedProposal l a image out =
+    cond (eqb (numberOf (a .refusal)) 0)
+    (called (numberOf (a .refusal)) [] (storedState (a .unit .current) image) (storedMessage l (a .message) out) blankCode)
+    (called (numberOf (a .refusal)) [] image out blankCode)
+
+-- an answer that refuses nothing is stored, its image over the one before it; a refusal leaves all as it is
+unfoldable pub storedAnswer : Limits → Answer → List ℕ → List ℕ → List ℕ → ℕ → Called
+storedAnswer l a log image out d =
+    cond (eqb (numberOf (a .refusal)) 0)
+    (called (numberOf (a .refusal)) (stored (logFormat l) (unitLog (a .unit)) log)
+    (storedOver (a .unit .current) (a .unit .checks) (a .unit .seconds) image) (storedMessage l (a .message) out) (codeOf (a .decision)))
+    (called (numberOf (a .refusal)) log image out d)

@@ -1,8 +1,11 @@
-// What the calls of a unit test before they read it.
+// What the calls of a unit test before they read it, and how they store its answer.
+use consensus::Answer;
+use contents::Message;
 use tally::limits;
+ghost use mathlib.Core.List.{[]};
 ghost use mathlib.Core.Path.{_≡_};
-ghost use Rattle.tally.specs.Limits.{today};
-ghost use Rattle.mileage.specs.Calls.{unitLengths, settingsNarrow};
+ghost use Rattle.tally.specs.Limits.{today, blankCode};
+ghost use Rattle.mileage.specs.Calls.{called, unitLengths, settingsNarrow, storedMessage, storedProposal, storedAnswer};
 
 // Do the numbers of a start fit their types?
 pub(crate) fn settings_narrow(engine: u32, n: u32, unit: u32, entry: u32) -> bool
@@ -16,4 +19,52 @@ pub(crate) fn wrong_lengths(log: &[u8], image: &[u8]) -> bool
     ensures { λ r. ⌜ r ≡ unitLengths today (now (log .entry)) (now (image .entry)) ⌝ }
 {
     (log.len() != limits::LOG_SIZE) | (image.len() != limits::IMAGE_SIZE)
+}
+
+// Stores a message in a cleared buffer, which holds the empty message already.
+pub(crate) fn put_message(m: Message, out: &mut [u8])
+    ensures { λ _. ⌜ now (out .exit) ≡ storedMessage today m (now (out .entry)) ⌝ }
+{
+    let kind = m.kind;
+    if contents::messages::is_empty(kind) {
+        return;
+    }
+    codec::messages::store_message(m, out);
+}
+
+// Stores what a proposal answers, unless it refuses: no log, and of the image its state alone.
+pub(crate) fn put_proposal(a: Answer, image: &mut [u8], out: &mut [u8]) -> u32
+    ensures { λ r. ⌜ called r [] (now (image .exit)) (now (out .exit)) blankCode
+        ≡ storedProposal today a (now (image .entry)) (now (out .entry)) ⌝ }
+{
+    let refusal = a.refusal;
+    let number = tally::number(refusal);
+    if number == 0 {
+        codec::images::put_state(a.unit.current, image);
+        put_message(a.message, out);
+    }
+    number
+}
+
+// Stores what a delivery answers, unless it refuses.
+pub(crate) fn put_answer(
+    a: Answer,
+    log: &mut [u8],
+    image: &mut [u8],
+    out: &mut [u8],
+    decision: &mut u32,
+) -> u32
+    ensures { λ r. ⌜ called r (now (log .exit)) (now (image .exit)) (now (out .exit)) (now (decision .exit))
+        ≡ storedAnswer today a (now (log .entry)) (now (image .entry)) (now (out .entry)) (now (decision .entry)) ⌝ }
+{
+    let refusal = a.refusal;
+    let number = tally::number(refusal);
+    if number == 0 {
+        let decided = a.decision;
+        *decision = codec::codes::code_of(decided);
+        put_message(a.message, out);
+        codec::logs::store_log(a.unit.log(), log);
+        codec::images::put_image(a.unit.current, a.unit.checks, a.unit.seconds, image);
+    }
+    number
 }

@@ -1,14 +1,11 @@
 // What a C program links: logs and messages as plain numbers and as bytes, and the four calls of a unit.
 mod calls;
-mod steps;
 
 use codec::EngineRead;
 use codec::LogRead;
 use codec::MessageRead;
 use codec::StateRead;
 use consensus::Unit;
-use consensus::methods;
-use contents::Log;
 use contents::Settings;
 use tally::Refusal;
 use tally::limits;
@@ -120,12 +117,13 @@ pub extern "C" fn mileage_propose(log: &[u8], image: &mut [u8], mileage: u32, ou
     let StateRead::Fits(state) = codec::images::state_for(image, l) else {
         return tally::number(Refusal::Image);
     };
-    if methods::out_of_range(mileage) {
-        return tally::number(Refusal::Mileage);
-    }
-    let settings = l.settings;
-    steps::propose(Log { settings, state }, mileage, image, out);
-    tally::number(Refusal::None)
+    let u = Unit::up(
+        l,
+        state,
+        codec::images::checks_of(image),
+        codec::images::seconds_of(image),
+    );
+    calls::put_proposal(u.propose(mileage), image, out)
 }
 
 // Delivers a message: where nothing is refused, writes log, image and message. The decision is always written.
@@ -157,14 +155,11 @@ pub extern "C" fn mileage_deliver(
     let MessageRead::Read(m) = codec::messages::read_message(message) else {
         return tally::number(Refusal::Message);
     };
-    let settings = l.settings;
-    if methods::for_other(settings, m) {
-        return tally::number(Refusal::Addressee);
-    }
-    let front = Log { settings, state };
-    if steps::closes_last(front, m, image) {
-        return tally::number(Refusal::LastRound);
-    }
-    steps::received(front, m, log, image, out, decision);
-    tally::number(Refusal::None)
+    let u = Unit::up(
+        l,
+        state,
+        codec::images::checks_of(image),
+        codec::images::seconds_of(image),
+    );
+    calls::put_answer(u.deliver(m), log, image, out, decision)
 }

@@ -3,7 +3,7 @@ use Prim.Native.Nat.{ℕ, zero, suc, _+_, _-_, _*_, _/_, _%_, _^_, _<_}
 use mathlib.Core.Path.{_≡_, refl, sym, ap, ap₂, _∙_}
 use mathlib.Core.Bool.{Bool, true, false}
 use mathlib.Core.Logic.{⊎-elim}
-use native.Mathlib.Nat.{mod-lt, add-zero, one-mul, zero-mul, suc-mul, zero-add, mod-one, pow-suc, mul-mod-left, div-eq-of-lt, eq-or-lt-of-le, mod-eq-of-lt}
+use native.Mathlib.Nat.{zero-div, mod-lt, add-zero, one-mul, zero-mul, suc-mul, zero-add, mod-one, pow-suc, mul-mod-left, div-eq-of-lt, eq-or-lt-of-le, mod-eq-of-lt}
 use native.Mathlib.Numerals.{add-one, one-add}
 use native.Mathlib.Omega.{arith}
 use borrow.Author.Tests.{eqb-false, leb-true, leb-false}
@@ -109,3 +109,7 @@ mark-other m s u n =
     ∙ or-mod (m / 2 ^ u) (2 ^ s / 2 ^ u) 1
     ∙ ap (λ (x : ℕ). bitOr (m / 2 ^ u % 2) x) (pow-bit s u n)
     ∙ or-zero-r (m / 2 ^ u % 2))
+
+-- where there are no marks, no sender is marked
+pub unmarked-none : (s : ℕ) → isMarked 0 s ≡ false
+unmarked-none s = ap (λ (x : ℕ). eqb (x % 2) 1) (zero-div (2 ^ s))

@@ -24,7 +24,7 @@ use Rattle.tally.specs.declared.Tally.{Tally}
 use Rattle.tally.proofs.Count.{passing-all, count-same, count-below}
 use Rattle.tally.proofs.Gathered.{after, after-one}
 use Rattle.tally.proofs.Quorums.{quorums-overlap}
-use Rattle.tally.proofs.Marks.{ones-senders, mark-same, mark-other}
+use Rattle.tally.proofs.Marks.{ones-senders, mark-same, mark-other, unmarked-none}
 
 -- those gathered from the sender s on
 abbrev pub rest : Tally → ℕ → List Estimate
@@ -125,6 +125,11 @@ pub held-other : (t : Tally) (s u : ℕ) (e : Estimate) → (u ≡ s → ⊥) �
 unfolding held mark
 held-other t s u e n =
     rw (mark-other (t .marks) s u n) (ap (λ (x : Estimate). cond (isMarked (t .marks) u) x Blank) (placed-other t s u e n))
+
+-- without marks nothing is held
+pub held-unmarked : (t : Tally) → t .marks ≡ 0 → (s : ℕ) → held t s ≡ Blank
+unfolding held
+held-unmarked t e s = rw (e, unmarked-none s)
 
 -- ---- tallies in which only units below n are marked
 

@@ -99,7 +99,7 @@ pub fn is_marked(marks: u16, sender: u8) -> bool
 }
 
 // The marks with this sender's.
-pub fn with_mark(marks: u16, sender: u8) -> u16
+fn with_mark(marks: u16, sender: u8) -> u16
     requires { ⌜ sender < senders ⌝ }
     ensures { λ r. ⌜ r ≡ bitOr marks (2 ^ sender) ⌝ }
 {

@@ -1,13 +1,14 @@
-use mathlib.Core.Path.{refl, sym, ap, _∙_}
+use mathlib.Core.Path.{sym, ap, _∙_}
 use native.Mathlib.Omega.{arith}
 use Rattle.tally.specs.Limits.{today}
 use Rattle.tally.proofs.Bounds.{sane-today}
 use Rattle.codec.specs.Logs.{logReading}
 use Rattle.codec.specs.Messages.{messageReading}
 use Rattle.consensus.specs.Rows.{firstOf}
-use Rattle.mileage.specs.Calls.{badMessage, deliverCallRows, deliverCall}
-use Rattle.mileage.proofs.Entries.{log-refused, message-refused, message-ok, deliver-size, deliver-stored}
-use Rattle.mileage.proofs.Held.{cleared-empty, log-good, log-there, for-read, image-bad, image-good, held}
+use Rattle.mileage.specs.Calls.{deliverCallRows, deliverCall}
+use Rattle.mileage.proofs.Entries.{log-refused, message-refused, deliver-size}
+use Rattle.mileage.proofs.Held.{cleared-empty, log-good, image-bad, image-good, unit-read, held, deliver-held}
+use Rattle.mileage.proofs.Stored.{deliver-there}
 use borrow.Author.Needs.{needs}
 use Rattle.mileage.proofs.mileage_deliver.Statement.{statement}
 use Rattle.mileage.proofs.mileage_deliver.Tie as tie
@@ -59,83 +60,26 @@ returns-4 c =
     )
 
 returns-5 : tie.Need-returns-5
-unfolding deliverCall deliverCallRows firstOf badMessage
 returns-5 c =
-    let m = c .before .before .before .before .before in
+    let p = c .before .before .before .before .before .before in
+    let a = p .before .before .before .before .before in
+    let m = a .before .before .before .before .before .before .before in
     let i = m .before .before .before .before in
     let l = i .before .before .before .before .before in
     let s = l .before .before .before .before in
-    let read = sym (ap logReading (l .l .given .1)) ∙ l .before .before .read-log .ensures in
-    let right = rw (s .before .before .before .before .before .wrong-lengths .ensures) at (s .if1 .left) in
-    let fit = sym (i .before .before .state-for .ensures) ∙ i .state .given .1 in
-    let there = sym (ap messageReading (m .m .given .1)) ∙ m .before .before .read-message .ensures in
-    rw (
-      right,
-      log-good _ _ read,
-      image-good _ _ _ read _ fit,
-      ← there,
-      ← read,
-      sym (c .before .before .for-other .ensures) ∙ c .before .if2 .taken,
-      c .number5 .ensures,
-      s .before .before .before .clear .ensures,
-    )
-
-returns-6 : tie.Need-returns-6
-unfolding deliverCall deliverCallRows firstOf badMessage
-returns-6 c =
-    let f = c .before .before .before .before in
-    let m = f .before .before .before .before in
-    let i = m .before .before .before .before in
-    let l = i .before .before .before .before .before in
-    let s = l .before .before .before .before in
-    let read = sym (ap logReading (l .l .given .1)) ∙ l .before .before .read-log .ensures in
-    let right = rw (s .before .before .before .before .before .wrong-lengths .ensures) at (s .if1 .left) in
-    let fit = sym (i .before .before .state-for .ensures) ∙ i .state .given .1 in
-    let there = sym (ap messageReading (m .m .given .1)) ∙ m .before .before .read-message .ensures in
     let known = s .before .before .before .before .before .before .before .before in
-    let h = held _ _ _ read _ fit (λ k. omega (arith, known .before .before .before .slice-known .given k))
-    (λ k. omega (arith, known .before .before .slice-known2 .given k)) in
-    rw (
-      right,
-      log-good _ _ read,
-      image-good _ _ _ read _ fit,
-      ← there,
-      for-read _ _ _ _ read (sym (f .before .for-other .ensures) ∙ f .if2 .left),
-      sym (c .before .before .closes-last .ensures _ h) ∙ c .before .if3 .taken,
-      c .number6 .ensures,
-      s .before .before .before .clear .ensures,
-    )
-
-returns-7 : tie.Need-returns-7
-returns-7 c =
-    let r = c .before .before .before .before .before .before .before in
-    let x = r .before .before .before .before .before in
-    let f = x .before .before .before in
-    let m = f .before .before .before .before in
-    let i = m .before .before .before .before in
-    let l = i .before .before .before .before .before in
-    let s = l .before .before .before .before in
-    let read = sym (ap logReading (l .l .given .1)) ∙ l .before .before .read-log .ensures in
-    let right = rw (s .before .before .before .before .before .wrong-lengths .ensures) at (s .if1 .left) in
-    let fit = sym (i .before .before .state-for .ensures) ∙ i .state .given .1 in
-    let there = sym (ap messageReading (m .m .given .1)) ∙ m .before .before .read-message .ensures in
-    let known = s .before .before .before .before .before .before .before .before in
-    let h = held _ _ _ read _ fit (λ k. omega (arith, known .before .before .before .slice-known .given k))
-    (λ k. omega (arith, known .before .before .slice-known2 .given k)) in
     let start = known .before .before .before .before .args in
-    let out = cleared-empty _ _ (s .before .before .before .clear .ensures)
-    (deliver-size today (start .log .now) (start .image .now) (start .message .now) (start .out .now) right) in
-    rw (c .number7 .ensures)
-    (deliver-stored today _ _ _ _ _ right (log-good _ _ read) (image-good _ _ _ read _ fit) there
-    (for-read _ _ _ _ read (sym (f .before .for-other .ensures) ∙ f .if2 .left))
-    (sym (x .before .closes-last .ensures _ h) ∙ x .if3 .left) _
-    (r .received .ensures _ h
-    (log-there _ (start .image .now) _ read (λ k. omega (arith, known .before .before .before .slice-known .given k))) out refl))
-
-ok : tie.Need-received-requires
-ok c κs =
-    let m = c .before .before .before .before .before .before .before .before .before .before .before in
-    message-ok today sane-today _ _ (sym (ap messageReading (m .m .given .1)) ∙ m .before .before .read-message .ensures)
+    let read = sym (ap logReading (l .l .given .1)) ∙ l .before .before .read-log .ensures in
+    let fit = sym (i .before .before .state-for .ensures) ∙ i .state .given .1 in
+    let right = rw (s .before .before .before .before .before .wrong-lengths .ensures) at (s .if1 .left) in
+    let size = deliver-size today (start .log .now) (start .image .now) (start .message .now) (start .out .now) right in
+    let unit = (rw (a .before .before .seconds-of .ensures, a .before .before .before .before .checks-of .ensures) at (a .before .up .ensures))
+    ∙ unit-read _ _ _ read _ fit (λ k. omega (arith, known .before .before .slice-known2 .given k)) in
+    let h = held _ _ _ read _ fit (λ k. omega (arith, known .before .before .slice-known2 .given k)) (λ k. omega (arith, known .before .before .before .slice-known .given k)) in
+    (rw (a .deliver .ensures, unit) at (p .put-answer .ensures))
+    ∙ deliver-there _ _ _ h _ (cleared-empty _ _ (s .before .before .before .clear .ensures) size) _
+    ∙ deliver-held _ _ _ h (start .out .now) size (start .message .now) _ (λ k. omega (arith, known .before .shared-slice-known .given k))
+    (sym (ap messageReading (m .m .given .1)) ∙ m .before .before .read-message .ensures)
 
 pub mileage-deliver-spec : {M : Type 1} → statement M
 unfolding deliverCall deliverCallRows firstOf
@@ -179,25 +123,12 @@ mileage-deliver-spec =
     returns-4
     (λ c κs. search needs)
     (λ c κs. search needs)
-    (λ c. search needs)
-    (λ c. search needs)
-    (λ c. let m = c .before .before .before .before .before .before .before .before .before .before in
-    m .before .before .before .before .before .before .before .before .before .before .before .clear .kept .0)
-    returns-5
-    (λ c κs. let m = c .before .before .before .before .before in
-    message-ok today sane-today _ _ (sym (ap messageReading (m .m .given .1)) ∙ m .before .before .read-message .ensures))
+    (λ c κs. search needs)
+    (λ c κs. search needs)
     (λ c κs. search needs)
     (λ c. search needs)
     (λ c. search needs)
-    (λ c. let m = c .before .before .before .before .before .before .before .before .before .before .before .before in
-    m .before .before .before .before .before .before .before .before .before .before .before .before .clear .kept .0)
-    returns-6
-    ok
-    (λ c κs. search needs)
-    (λ c. search needs)
-    (λ c. search needs)
-    (λ c. let r = c .before .before .before .before .before .before .before in
-    let m = r .before .before .before .before .before .before .before .before .before .before .before .before .before .before in
-    r .received .kept .1 .1 .1 .1 .0
-    ∙ m .before .before .before .before .before .before .before .before .before .before .before .before .before .before .clear .kept .0)
-    returns-7)
+    (λ c. let p = c .before .before .before .before .before .before in
+    let s = p .before .before .before .before .before .before .before .before .before .before .before .before .before .before .before .before .before .before .before .before .before .before .before .before .before in
+    p .put-answer .kept .1 .1 .1 .0 ∙ s .before .before .before .clear .kept .0)
+    returns-5)

@@ -1,14 +1,13 @@
 use mathlib.Core.Path.{sym, ap, _∙_}
 use native.Mathlib.Omega.{arith}
-use lib.ListN.{length}
 use Rattle.tally.specs.Limits.{today}
 use Rattle.tally.proofs.Bounds.{sane-today}
 use Rattle.codec.specs.Logs.{logReading}
-use Rattle.codec.proofs.Cleared.{length-cleared}
 use Rattle.consensus.specs.Rows.{firstOf}
 use Rattle.mileage.specs.Calls.{proposeCallRows, proposeCall}
-use Rattle.mileage.proofs.Entries.{log-refused, propose-sizes, propose-stored}
-use Rattle.mileage.proofs.Held.{log-good, image-bad, image-good, held}
+use Rattle.mileage.proofs.Entries.{log-refused, propose-sizes}
+use Rattle.mileage.proofs.Held.{cleared-empty, log-good, image-bad, unit-read, held, propose-held}
+use Rattle.mileage.proofs.Stored.{propose-there}
 use borrow.Author.Needs.{needs}
 use Rattle.mileage.proofs.mileage_propose.Statement.{statement}
 use Rattle.mileage.proofs.mileage_propose.Tie as tie
@@ -41,39 +40,24 @@ returns-3 c =
     )
 
 returns-4 : tie.Need-returns-4
-unfolding proposeCall proposeCallRows firstOf
 returns-4 c =
-    let i = c .before .before .before .before .before .before in
-    let l = i .before .before .before in
+    let p = c .before .before .before .before in
+    let a = p .before .before .before in
+    let i = a .before .before .before .before .before .before .before in
+    let l = i .before .before .before .before .before in
     let s = l .before .before .before in
+    let known = s .before .before .before .before .before .before .before in
+    let start = known .before .before .before .args in
     let read = sym (ap logReading (l .l .given .1)) ∙ l .before .before .read-log .ensures in
-    rw (
-      rw (s .before .before .before .before .before .wrong-lengths .ensures) at (s .if1 .left),
-      log-good _ _ read,
-      image-good _ _ _ read _ (sym (i .state-for .ensures) ∙ c .before .before .before .before .state .given .1),
-      sym (c .before .before .out-of-range .ensures) ∙ c .before .if2 .taken,
-      c .number4 .ensures,
-      s .before .before .before .clear .ensures,
-    )
-
-returns-5 : tie.Need-returns-5
-returns-5 c =
-    let p = c .before .before .before .before .before in
-    let x = p .before .before .before .before in
-    let i = x .before .before .before .before .before in
-    let l = i .before .before .before in
-    let s = l .before .before .before in
-    let known = s .before .before .before .before .before .before .before .before in
-    let start = known .before .before .args in
-    let read = sym (ap logReading (l .l .given .1)) ∙ l .before .before .read-log .ensures in
-    let fit = sym (i .state-for .ensures) ∙ x .before .before .before .state .given .1 in
+    let fit = sym (i .before .before .state-for .ensures) ∙ i .state .given .1 in
     let right = rw (s .before .before .before .before .before .wrong-lengths .ensures) at (s .if1 .left) in
-    let long = ap length (s .before .before .before .clear .ensures) ∙ length-cleared today (start .out .now)
-    ∙ propose-sizes today _ _ (start .out .now) right .1 in
-    let h = held _ _ _ read _ fit (λ k. omega (arith, known .before .shared-slice-known .given k)) (λ k. omega (arith, known .slice-known .given k)) in
-    rw (c .number5 .ensures)
-    (propose-stored today _ _ _ _ right (log-good _ _ read) (image-good _ _ _ read _ fit) (sym (x .before .out-of-range .ensures) ∙ x .if2 .left) _ _
-    (p .propose .ensures .0 _ h) (p .propose .ensures .1 _ (h .begins) long))
+    let size = propose-sizes today (start .log .now) (start .image .now) (start .out .now) right .1 in
+    let unit = (rw (a .before .before .seconds-of .ensures, a .before .before .before .before .checks-of .ensures) at (a .before .up .ensures))
+    ∙ unit-read _ _ _ read _ fit (λ k. omega (arith, known .before .slice-known .given k)) in
+    let h = held _ _ _ read _ fit (λ k. omega (arith, known .before .slice-known .given k)) (λ k. omega (arith, known .before .before .shared-slice-known .given k)) in
+    propose-there _ _ _ h _ (cleared-empty _ _ (s .before .before .before .clear .ensures) size) _ _
+    (rw (a .propose .ensures, unit) at (p .put-proposal .ensures))
+    ∙ propose-held _ _ _ h (start .out .now) size _
 
 pub mileage-propose-spec : {M : Type 1} → statement M
 unfolding proposeCall proposeCallRows firstOf
@@ -106,11 +90,11 @@ mileage-propose-spec =
     returns-3
     (λ c κs. search needs)
     (λ c κs. search needs)
-    (λ c. search needs)
-    (λ c. search needs)
-    returns-4
+    (λ c κs. search needs)
     (λ c κs. search needs)
     (λ c κs. search needs)
     (λ c. search needs)
-    (λ c. search needs)
-    returns-5)
+    (λ c. let p = c .before .before .before .before in
+    let s = p .before .before .before .before .before .before .before .before .before .before .before .before .before .before .before .before .before .before in
+    p .put-proposal .kept .1 .1 .0 ∙ s .before .before .before .clear .kept .0)
+    returns-4)

@@ -1,13 +1,15 @@
 -- The invariant: the places passed are all right. Assumes nothing.
 use Prim.Native.Nat.{_+_, _*_, _-_, _≤_}
-use mathlib.Core.Path.{_≡_, refl}
+use mathlib.Core.Path.{_≡_, refl, sym, ap, _∙_}
 use native.Mathlib.Numerals.{add-one}
 use native.Mathlib.Omega.{arith}
 use borrow.Author.Needs.{needs}
 use Rattle.tally.specs.Limits.{today, senders}
 use Rattle.tally.specs.Tally.{isMarked, placed}
+use Rattle.contents.specs.Estimates.{isBlank}
 use Rattle.contents.specs.Images.{every, placeOk, placesOk}
 use Rattle.codec.specs.Images.{tallyAt}
+use Rattle.codec.proofs.Marked.{blank-places}
 use Rattle.codec.proofs.Places.{placed-at}
 use Rattle.codec.proofs.images.places_at.Statement.{statement}
 use Rattle.codec.proofs.images.places_at.Tie as tie
@@ -19,30 +21,31 @@ Inv-loop s at split n marks from₀ ok₀ k₀ from ok k = (k ≤ senders) × ((
 abbrev μ-loop : tie.MeasureT-loop
 μ-loop s at split n marks from₀ ok₀ k₀ from ok k = senders - k
 
+returns : tie.Need-returns Inv-loop μ-loop
+returns c =
+    let b = c .before .before in
+    let args = b .before .before .args in
+    c .blanks-at .ensures
+    ∙ blank-places today (args .split) (args .n) (tallyAt (args .at) (args .s .now)) _ (sym (b .be16 .ensures) ∙ c .before .if1 .taken)
+    (λ u h. ap isBlank (sym (placed-at (args .at) u (args .s .now) h)))
+
 loop-again : tie.Need-loop-again Inv-loop μ-loop
 unfolding every
 loop-again c =
-    let l = c .before .before .before .before .before in
-    let args = l .before .before .before .args in
-    let e = rw (← l .loop .inv .1 .0, ← c .before .before .before .be32 .ensures) at (placed-at (args .at) (l .loop .k) (args .s .now) (search needs)) in (
+    let l = c .before .before .before in
+    let b = l .before .before in
+    let args = b .before .before .args in
+    let e = placed-at (args .at) (l .loop .k) (args .s .now) (search needs) in (
       omega arith,
       (
         omega arith,
-        rw (
-          add-one,
-          e,
-          c .place-ok .ensures,
-          c .before .is-marked .ensures,
-          c .before .before .estimate-of .ensures,
-          l .before .be16 .ensures,
-          l .loop .inv .1 .1,
-        ),
+        rw (add-one, e, ← l .loop .inv .1 .0, c .place-at .ensures, c .before .is-marked .ensures, b .be16 .ensures, l .loop .inv .1 .1),
       ),
     )
 
-returns : tie.Need-returns Inv-loop μ-loop
+returns-2 : tie.Need-returns-2 Inv-loop μ-loop
 unfolding placesOk
-returns c =
+returns-2 c =
     let e : c .before .loop .k ≡ senders = omega arith in
     rw e at (c .before .loop .inv .1 .1)
 
@@ -55,13 +58,14 @@ places-at-spec =
     μ-loop
     (λ c κs. search needs)
     (λ c. search needs)
+    (λ c κs. search needs)
+    returns
+    (λ c. search needs)
     (λ c. (omega arith, (omega arith, refl)))
     (λ c κs. omega arith)
-    (λ c κs. search needs)
-    (λ c κs. search needs)
     (λ c κs. search needs)
     (λ c. omega arith)
     (λ c. omega arith)
     (λ c. omega arith)
     loop-again
-    returns)
+    returns-2)
