@@ -10,24 +10,24 @@ use lib.ListN.{length, getD, replicate, length-append}
 use borrow.Author.Tests.{eq-eqb, eqb-true}
 use Rattle.tally.specs.Limits.{today, imageSize, senders}
 use Rattle.tally.specs.Tally.{Typed, isMarked, blankCell, placed, held}
+use Rattle.tally.specs.declared.Engine.{Engine}
 use Rattle.tally.specs.declared.Estimate.the-variants.{Blank}
 use Rattle.tally.specs.declared.Tally.{Tally}
 use Rattle.tally.specs.Refusal.{numberOf}
 use Rattle.tally.specs.declared.Refusal.{Refusal}
 use Rattle.tally.proofs.Bounds.{sane-today}
-use Rattle.contents.specs.Estimates.{isB}
 use Rattle.contents.specs.Images.{imageOk, fits}
 use Rattle.contents.specs.declared.Image.{Image}
 use Rattle.contents.specs.declared.Log.{Log}
 use Rattle.contents.specs.declared.State.{State}
-use Rattle.contents.proofs.Facts.{ImageFacts, image-facts}
+use Rattle.contents.proofs.Facts.{TallyFacts, image-facts}
 use Rattle.contents.proofs.Tests.{both-true}
 use Rattle.codec.specs.Codes.{codeOf, estimateOf}
 use Rattle.codec.specs.Formats.{reading, checked, withZero}
 use Rattle.codec.specs.declared.StateRead.{StateRead}
 use Rattle.codec.specs.Images.{TypedImage, cellOf, cellCode, cellWidths, tallyWidths, tallyOf, tallyNumbers, tallyAt, withTallies}
 use Rattle.codec.specs.Images.{imageWidths, imageNumbers, imageFormat, imageBytes, noImage, fitState, checksAt, secondsAt}
-use Rattle.codec.specs.Images.{asMarked, checksOf, secondsOf, stateOver, tallyOver, imageOver}
+use Rattle.codec.specs.Images.{asMarked, tallyFrom, stateOver, tallyOver, imageOver}
 use Rattle.codec.specs.Logs.{logZero, settingsWidths, settingsNumbers, stateWidths, stateNumbers, roundAt}
 use Rattle.codec.specs.Numbers.{numAt, bytesOf, total, unpack, pack, packInto}
 use Rattle.codec.proofs.ImageFormat as image
@@ -189,30 +189,25 @@ image-over i s c d t tc td fit kc kd =
 
 -- ---- what is read back
 
-tally-there : (t : Tally) (p q : List ℕ) (o : ℕ) → Typed t → image.AllKnown today sane-today (t .cells) → length p ≡ o
-    → tallyAt o (p ++ (tallyBytes t ++ q)) ≡ t
-tally-there t p q o typed known len =
-    ap tallyOf (unpack-part tallyWidths (tallyNumbers t) p q o len (image.tally-fit today sane-today t typed known))
-    ∙ image.tally-back today sane-today t typed known
+-- a tally that stands somewhere in an image is read from there
+tally-read : (split : Bool) (g : Engine) (n : ℕ) (t : Tally) (bs p q : List ℕ) (o : ℕ) → Typed t → TallyFacts today split g n t
+    → length bs ≡ imageSize today → bs ≡ p ++ (tallyBytes t ++ q) → length p ≡ o → tallyFrom o bs ≡ t
+unfolding tallyFrom
+tally-read split g n t bs p q o typed facts size e len =
+    let known = image.known-cells today sane-today split g n t facts typed in
+    rw (eq-eqb _ _ size)
+    (ap (λ (xs : List ℕ). asMarked (tallyAt o xs)) e
+    ∙ ap (λ (vs : List ℕ). asMarked (tallyOf vs)) (unpack-part tallyWidths (tallyNumbers t) p q o len (image.tally-fit today sane-today t typed known))
+    ∙ ap asMarked (image.tally-back today sane-today t typed known)
+    ∙ as-marked today split g n t facts typed)
 
 module _ (i : Image) (t : TypedImage i) (ok : imageOk today i ≡ true) where
-  facts : ImageFacts today i
-  facts = image-facts today i ok
-
-  pub checks-read : checksOf (imageBytes today i) ≡ i .checks
-  unfolding checksOf
+  pub checks-read : tallyFrom checksAt (imageBytes today i) ≡ i .checks
   checks-read =
-      let known = image.known-cells today sane-today false _ _ (i .checks) (facts .checks) (t .0) in
-      rw (eq-eqb _ _ (length-image i t))
-      (ap (λ (bs : List ℕ). asMarked (tallyAt checksAt bs)) (by-checks i t)
-      ∙ ap asMarked (tally-there (i .checks) (front i) (tallyBytes (i .seconds)) checksAt (t .0) known (length-front i t))
-      ∙ as-marked today false _ _ (i .checks) (facts .checks) (t .0))
+      tally-read false _ _ (i .checks) _ (front i) (tallyBytes (i .seconds)) checksAt (t .0) (image-facts today i ok .checks) (length-image i t)
+      (by-checks i t) (length-front i t)
 
-  pub seconds-read : secondsOf (imageBytes today i) ≡ i .seconds
-  unfolding secondsOf
+  pub seconds-read : tallyFrom secondsAt (imageBytes today i) ≡ i .seconds
   seconds-read =
-      let known = image.known-cells today sane-today (isB (i .settings .engine)) _ _ (i .seconds) (facts .seconds) (t .1) in
-      rw (eq-eqb _ _ (length-image i t))
-      (ap (λ (bs : List ℕ). asMarked (tallyAt secondsAt bs)) (by-seconds i t)
-      ∙ ap asMarked (tally-there (i .seconds) (front i ++ tallyBytes (i .checks)) [] secondsAt (t .1) known (length-before i t))
-      ∙ as-marked today (isB (i .settings .engine)) _ _ (i .seconds) (facts .seconds) (t .1))
+      tally-read _ _ _ (i .seconds) _ (front i ++ tallyBytes (i .checks)) [] secondsAt (t .1) (image-facts today i ok .seconds) (length-image i t)
+      (by-seconds i t) (length-before i t)

@@ -125,12 +125,9 @@ heldFrom t s (suc k) = record { estimate = held t s } ∷ heldFrom t (suc s) k
 abbrev pub asMarked : Tally → Tally
 asMarked t = record { marks = t .marks; cells = heldFrom t 0 senders }
 
--- the tallies of an image's bytes; bytes of another length have none
-unfoldable pub checksOf : List ℕ → Tally
-checksOf bs = cond (eqb (length bs) (imageSize today)) (asMarked (tallyAt checksAt bs)) noMarks
-
-unfoldable pub secondsOf : List ℕ → Tally
-secondsOf bs = cond (eqb (length bs) (imageSize today)) (asMarked (tallyAt secondsAt bs)) noMarks
+-- a tally of an image's bytes, at its place; bytes of another length have no marks
+unfoldable pub tallyFrom : ℕ → List ℕ → Tally
+tallyFrom o bs = cond (eqb (length bs) (imageSize today)) (asMarked (tallyAt o bs)) noMarks
 
 -- a state written at its place
 abbrev pub stateOver : State → List ℕ → List ℕ
@@ -146,9 +143,6 @@ imageOver s c d bs =
     let same = eqb (s .round) (roundAt bs) in
     tallyOver secondsAt same d (tallyOver checksAt same c (stateOver s bs))
 
--- both, in a buffer of an image's length; another keeps its bytes
-unfoldable pub storedState : State → List ℕ → List ℕ
-storedState s bs = cond (eqb (length bs) (imageSize today)) (stateOver s bs) bs
-
-unfoldable pub storedOver : State → Tally → Tally → List ℕ → List ℕ
-storedOver s c d bs = cond (eqb (length bs) (imageSize today)) (imageOver s c d bs) bs
+-- a change to the bytes of an image; a buffer of another length keeps its bytes
+unfoldable pub inImage : (List ℕ → List ℕ) → List ℕ → List ℕ
+inImage change bs = cond (eqb (length bs) (imageSize today)) (change bs) bs

@@ -25,8 +25,8 @@ ghost use Rattle.codec.specs.Codes.{codeOf, estimateOf};
 ghost use Rattle.codec.specs.Numbers.{numAt, total, unpack, packInto};
 ghost use Rattle.codec.specs.Formats.{stored};
 ghost use Rattle.codec.specs.Images.{cellOf, cellCode, cellWidths, tallyWidths, tallyNumbers, withTallies, imageFormat, readImage};
-ghost use Rattle.codec.specs.Images.{tallyAt, checksAt, secondsAt, fitState, heldFrom, asMarked, checksOf, secondsOf};
-ghost use Rattle.codec.specs.Images.{tallyOver, storedState, storedOver};
+ghost use Rattle.codec.specs.Images.{tallyAt, checksAt, secondsAt, fitState, heldFrom, asMarked, tallyFrom};
+ghost use Rattle.codec.specs.Images.{stateOver, tallyOver, imageOver, inImage};
 
 // Where the tallies stand, and where a tally's estimates do.
 const AT_CHECKS: usize = limits::LOG_SIZE;
@@ -213,9 +213,9 @@ fn tally_at(s: &[u8], at: usize) -> Tally
     }
 }
 
-// The CHECKs of an image; bytes of another length have none.
+// The CHECKs and the SECONDs of an image; bytes of another length have none.
 pub fn checks_of(s: &[u8]) -> Tally
-    ensures { λ r. ⌜ r ≡ checksOf (now (s .entry)) ⌝ }
+    ensures { λ r. ⌜ r ≡ tallyFrom checksAt (now (s .entry)) ⌝ }
 {
     if s.len() == limits::IMAGE_SIZE {
         tally_at(s, AT_CHECKS)
@@ -224,9 +224,8 @@ pub fn checks_of(s: &[u8]) -> Tally
     }
 }
 
-// The SECONDs of an image; bytes of another length have none.
 pub fn seconds_of(s: &[u8]) -> Tally
-    ensures { λ r. ⌜ r ≡ secondsOf (now (s .entry)) ⌝ }
+    ensures { λ r. ⌜ r ≡ tallyFrom secondsAt (now (s .entry)) ⌝ }
 {
     if s.len() == limits::IMAGE_SIZE {
         tally_at(s, AT_SECONDS)
@@ -284,7 +283,7 @@ fn put_changed(t: Tally, same: bool, out: &mut [u8], at: usize)
 
 // Stores a state in an image; a buffer of another length keeps its bytes.
 pub fn put_state(s: State, out: &mut [u8])
-    ensures { λ _. ⌜ now (out .exit) ≡ storedState s (now (out .entry)) ⌝ }
+    ensures { λ _. ⌜ now (out .exit) ≡ inImage (stateOver s) (now (out .entry)) ⌝ }
 {
     if out.len() == limits::IMAGE_SIZE {
         logs::put_state_at(s, out);
@@ -293,7 +292,7 @@ pub fn put_state(s: State, out: &mut [u8])
 
 // Stores a state and tallies in an image, what is there already left out; a buffer of another length keeps its bytes.
 pub fn put_image(s: State, checks: Tally, seconds: Tally, out: &mut [u8])
-    ensures { λ _. ⌜ now (out .exit) ≡ storedOver s checks seconds (now (out .entry)) ⌝ }
+    ensures { λ _. ⌜ now (out .exit) ≡ inImage (imageOver s checks seconds) (now (out .entry)) ⌝ }
 {
     if out.len() == limits::IMAGE_SIZE {
         let same = s.round == logs::round_at(out);

@@ -20,7 +20,7 @@ use Rattle.contents.specs.declared.State.{State}
 use Rattle.contents.proofs.Same.{same-settings}
 use Rattle.contents.proofs.Tests.{both-true}
 use Rattle.codec.specs.Formats.{Reading, reading, toBytes}
-use Rattle.codec.specs.Images.{TypedImage, imageFormat, imageBytes, readImage, fitState, checksOf, secondsOf}
+use Rattle.codec.specs.Images.{TypedImage, imageFormat, imageBytes, readImage, fitState, checksAt, secondsAt, tallyFrom}
 use Rattle.codec.specs.Logs.{logFormat, readLog}
 use Rattle.codec.specs.Messages.{messageFormat, readMessage, emptyBytes, cleared}
 use Rattle.codec.specs.Numbers.{Bytes}
@@ -125,14 +125,15 @@ module _ (log image : List ℕ) (r : Log) (read : reading 0 r ≡ readLog today 
       typed = images.read-typed today sane-today image i b (was-read (readImage today image) (there .0))
 
       -- the unit that is made of what was read is the one that the bytes hold
-      pub unit-read : upUnit r (record { settings = r .settings; state = s; checks = checksOf image; seconds = secondsOf image }) ≡ unitOf today log image
+      pub unit-read : upUnit r (record { settings = r .settings; state = s; checks = tallyFrom checksAt image; seconds = tallyFrom secondsAt image })
+          ≡ unitOf today log image
       unfolding i
       unit-read =
           rw (
             ← read,
             tested .1,
-            ap checksOf (sym (back .1)) ∙ checks-read i typed (back .0),
-            ap secondsOf (sym (back .1)) ∙ seconds-read i typed (back .0),
+            ap (tallyFrom checksAt) (sym (back .1)) ∙ checks-read i typed (back .0),
+            ap (tallyFrom secondsAt) (sym (back .1)) ∙ seconds-read i typed (back .0),
           )
 
       pub held : Bytes log → Held log image (unitOf today log image)

@@ -23,7 +23,7 @@ use Rattle.contents.specs.declared.Settings.{Settings}
 use Rattle.contents.proofs.Facts.{image-facts, log-facts}
 use Rattle.codec.specs.Codes.{codeOf}
 use Rattle.codec.specs.Formats.{stored}
-use Rattle.codec.specs.Images.{asMarked, imageBytes, storedState, storedOver, withTallies}
+use Rattle.codec.specs.Images.{asMarked, imageBytes, stateOver, imageOver, inImage, withTallies}
 use Rattle.codec.specs.Logs.{logFormat}
 use Rattle.codec.specs.Messages.{messageFormat, emptyBytes}
 use Rattle.codec.proofs.Marked.{as-marked, held-alike}
@@ -69,8 +69,8 @@ module _ (log image : List ℕ) (u : U.Unit) (h : Held log image u) where
 
   -- the image of a unit whose tallies are others only where their marks or the round are
   over : (v : U.Unit) → WellFormed today v → v .settings ≡ u .settings → Tallies u v
-      → storedOver (v .current) (v .checks) (v .seconds) image ≡ imageBytes today (unitImage v)
-  unfolding storedOver w
+      → inImage (imageOver (v .current) (v .checks) (v .seconds)) image ≡ imageBytes today (unitImage v)
+  unfolding inImage w
   over v x settings kept =
       rw (eq-eqb _ _ image-length, h .image-bytes)
       (image-over (unitImage u) (v .current) (v .checks) (v .seconds) (w .checks, w .seconds) (x .checks) (x .seconds)
@@ -117,7 +117,7 @@ module _ (log image : List ℕ) (u : U.Unit) (h : Held log image u) where
 
         go : (b : Bool) → eqb (numberOf (a .refusal)) 0 ≡ b
             → cond b (called (numberOf (a .refusal)) (stored (logFormat today) (unitLog (a .unit)) log)
-            (storedOver (a .unit .current) (a .unit .checks) (a .unit .seconds) image) (storedMessage today (a .message) out) (codeOf (a .decision)))
+            (inImage (imageOver (a .unit .current) (a .unit .checks) (a .unit .seconds)) image) (storedMessage today (a .message) out) (codeOf (a .decision)))
             (called (numberOf (a .refusal)) log image out blankCode) ≡ answered today a
         go false e = refused-there (deliverRows today u m) (received u m) (plain-received u m .none) e
         go true e =
@@ -129,7 +129,7 @@ module _ (log image : List ℕ) (u : U.Unit) (h : Held log image u) where
 
     pub propose-there : (v : ℕ) (c : Called) → c ≡ storedProposal today (propose today u v) image out
         → called (c .number) log (c .image) (c .out) blankCode ≡ answered today (propose today u v)
-    unfolding storedProposal storedState propose
+    unfolding storedProposal inImage propose
     propose-there v c stored = rw stored (go (eqb (numberOf (a .refusal)) 0) refl)
       where
         a : Answer
@@ -140,7 +140,7 @@ module _ (log image : List ℕ) (u : U.Unit) (h : Held log image u) where
 
         go : (b : Bool) → eqb (numberOf (a .refusal)) 0 ≡ b
             → in-log (cond b
-            (called (numberOf (a .refusal)) [] (storedState (a .unit .current) image) (storedMessage today (a .message) out) blankCode)
+            (called (numberOf (a .refusal)) [] (inImage (stateOver (a .unit .current)) image) (storedMessage today (a .message) out) blankCode)
             (called (numberOf (a .refusal)) [] image out blankCode)) ≡ answered today a
         go false e = refused-there (proposeRows today u v) (proposed u v) (plain-proposed u v .none) e
         go true e =

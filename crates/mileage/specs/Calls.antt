@@ -20,7 +20,7 @@ use Rattle.contents.specs.declared.Message.{Message}
 use Rattle.contents.specs.declared.Settings.{Settings}
 use Rattle.codec.specs.Codes.{engineOf, codeOf}
 use Rattle.codec.specs.Formats.{Reading, toBytes, stored}
-use Rattle.codec.specs.Images.{readImage, imageBytes, storedState, storedOver}
+use Rattle.codec.specs.Images.{readImage, imageBytes, stateOver, imageOver, inImage}
 use Rattle.codec.specs.Logs.{logFormat, readLog}
 use Rattle.codec.specs.Messages.{messageFormat, readMessage, emptyBytes, cleared}
 use Rattle.codec.specs.declared.EngineRead.{EngineRead}
@@ -190,7 +190,7 @@ storedMessage l m out = cond (isEmpty (m .kind)) out (stored (messageFormat l) m
 unfoldable pub storedProposal : Limits → Answer → List ℕ → List ℕ → Called
 storedProposal l a image out =
     cond (eqb (numberOf (a .refusal)) 0)
-    (called (numberOf (a .refusal)) [] (storedState (a .unit .current) image) (storedMessage l (a .message) out) blankCode)
+    (called (numberOf (a .refusal)) [] (inImage (stateOver (a .unit .current)) image) (storedMessage l (a .message) out) blankCode)
     (called (numberOf (a .refusal)) [] image out blankCode)
 
 -- an answer that refuses nothing is stored, its image over the one before it; a refusal leaves all as it is
@@ -198,5 +198,5 @@ unfoldable pub storedAnswer : Limits → Answer → List ℕ → List ℕ → Li
 storedAnswer l a log image out d =
     cond (eqb (numberOf (a .refusal)) 0)
     (called (numberOf (a .refusal)) (stored (logFormat l) (unitLog (a .unit)) log)
-    (storedOver (a .unit .current) (a .unit .checks) (a .unit .seconds) image) (storedMessage l (a .message) out) (codeOf (a .decision)))
+    (inImage (imageOver (a .unit .current) (a .unit .checks) (a .unit .seconds)) image) (storedMessage l (a .message) out) (codeOf (a .decision)))
     (called (numberOf (a .refusal)) log image out d)

@@ -57,7 +57,8 @@ pub after-step : (a : Estimate) (t : Tally) (s : ℕ) → s < senders
     → after a (rest t s) ≡ cond (isMarked (t .marks) s) (cond (agrees a (placed t s)) (after (placed t s) (rest t (s + 1))) Split) (after a (rest t (s + 1)))
 after-step a t s below = ap (after a) (rest-step t s below) ∙ go (isMarked (t .marks) s) (rest t (s + 1))
   where
-    go : (b : Bool) (es : List Estimate) → after a (cond b (placed t s ∷ es) es) ≡ cond b (cond (agrees a (placed t s)) (after (placed t s) es) Split) (after a es)
+    go : (b : Bool) (es : List Estimate)
+        → after a (cond b (placed t s ∷ es) es) ≡ cond b (cond (agrees a (placed t s)) (after (placed t s) es) Split) (after a es)
     go true es = after-one a (placed t s) es
     go false es = refl
 

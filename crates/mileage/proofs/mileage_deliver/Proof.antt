@@ -75,7 +75,8 @@ returns-5 c =
     let size = deliver-size today (start .log .now) (start .image .now) (start .message .now) (start .out .now) right in
     let unit = (rw (a .before .before .seconds-of .ensures, a .before .before .before .before .checks-of .ensures) at (a .before .up .ensures))
     ∙ unit-read _ _ _ read _ fit (λ k. omega (arith, known .before .before .slice-known2 .given k)) in
-    let h = held _ _ _ read _ fit (λ k. omega (arith, known .before .before .slice-known2 .given k)) (λ k. omega (arith, known .before .before .before .slice-known .given k)) in
+    let h = held _ _ _ read _ fit (λ k. omega (arith, known .before .before .slice-known2 .given k))
+    (λ k. omega (arith, known .before .before .before .slice-known .given k)) in
     (rw (a .deliver .ensures, unit) at (p .put-answer .ensures))
     ∙ deliver-there _ _ _ h _ (cleared-empty _ _ (s .before .before .before .clear .ensures) size) _
     ∙ deliver-held _ _ _ h (start .out .now) size (start .message .now) _ (λ k. omega (arith, known .before .shared-slice-known .given k))
@@ -129,6 +130,7 @@ mileage-deliver-spec =
     (λ c. search needs)
     (λ c. search needs)
     (λ c. let p = c .before .before .before .before .before .before in
-    let s = p .before .before .before .before .before .before .before .before .before .before .before .before .before .before .before .before .before .before .before .before .before .before .before .before .before in
+    let m = p .before .before .before .before .before .before .before .before .before .before .before .before in
+    let s = m .before .before .before .before .before .before .before .before .before .before .before .before .before in
     p .put-answer .kept .1 .1 .1 .0 ∙ s .before .before .before .clear .kept .0)
     returns-5)

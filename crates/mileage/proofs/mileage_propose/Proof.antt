@@ -54,7 +54,8 @@ returns-4 c =
     let size = propose-sizes today (start .log .now) (start .image .now) (start .out .now) right .1 in
     let unit = (rw (a .before .before .seconds-of .ensures, a .before .before .before .before .checks-of .ensures) at (a .before .up .ensures))
     ∙ unit-read _ _ _ read _ fit (λ k. omega (arith, known .before .slice-known .given k)) in
-    let h = held _ _ _ read _ fit (λ k. omega (arith, known .before .slice-known .given k)) (λ k. omega (arith, known .before .before .shared-slice-known .given k)) in
+    let h = held _ _ _ read _ fit (λ k. omega (arith, known .before .slice-known .given k))
+    (λ k. omega (arith, known .before .before .shared-slice-known .given k)) in
     propose-there _ _ _ h _ (cleared-empty _ _ (s .before .before .before .clear .ensures) size) _ _
     (rw (a .propose .ensures, unit) at (p .put-proposal .ensures))
     ∙ propose-held _ _ _ h (start .out .now) size _

@@ -1,11 +1,11 @@
 use borrow.Author.Needs.{needs}
 use borrow.Author.Tests.{eq-eqb, ne-eqb}
-use Rattle.codec.specs.Images.{storedOver}
+use Rattle.codec.specs.Images.{inImage}
 use Rattle.codec.proofs.images.put_image.Statement.{statement}
 use Rattle.codec.proofs.images.put_image.Tie as tie
 
 returns : tie.Need-returns
-unfolding storedOver
+unfolding inImage
 returns c =
     let first = c .before .before .before .before .before .before in
     let state = first .before .before .before .before in
@@ -19,7 +19,7 @@ returns c =
     )
 
 pub put-image-spec : {M : Type 1} → statement M
-unfolding storedOver
+unfolding inImage
 put-image-spec =
     tie.close
     (tie.spec
