@@ -97,9 +97,9 @@ uint32_t mileage_propose(const uint8_t *log, size_t log_len, uint8_t *image, siz
                          uint8_t *out, size_t out_len);
 
 /*
- * Delivers a message to the unit. Reads log, image and message; writes the image, the log where the step logs, and to
- * the output buffer the message that goes out, or the empty one. `decision` is always written: the mileage decided, or
- * MILEAGE_BLANK where there is none, on a refusal too. Answers 0, 1, 2, 3, 4, 5 or 7.
+ * Delivers a message to the unit. Reads log, image and message; writes image and log (the log's bytes change only where
+ * the step logs), and to the output buffer the message that goes out, or the empty one. `decision` is always written: the
+ * mileage decided, or MILEAGE_BLANK where there is none, on a refusal too. Answers 0, 1, 2, 3, 4, 5 or 7.
  */
 uint32_t mileage_deliver(uint8_t *log, size_t log_len, uint8_t *image, size_t image_len,
                          const uint8_t *message, size_t message_len, uint8_t *out, size_t out_len, uint32_t *decision);

@@ -1,4 +1,4 @@
--- What is held of a tally: all of a well-formed one. Assumes nothing.
+-- Tallies with every unmarked place blank: a well-formed one is so already. Assumes nothing.
 use Prim.Native.Nat.{ℕ, zero, suc, _+_, _-_, _<_, _≤_}
 use mathlib.Core.Path.{_≡_, refl, sym, ap, ap₂, _∙_}
 use mathlib.Core.Bool.{Bool, true, false, cond, and-true}

@@ -123,7 +123,7 @@ module _ {A : Type 0} (f : Format A) (Typed : A → Type 0) (law : Lawful f Type
   length-row bs = omega (arith, law .counted, length-without (f .zeroAt) (unpack 0 (f .widths) bs) (in-row bs), length-unpack 0 (f .widths) bs)
 
   -- what is read is well formed, and has the numbers of the row
-  pub read-fields : (bs : List ℕ) (a : A) → readBytes f bs ≡ reading 0 a → (f .ok a ≡ true) × (f .numbers a ≡ rowNumbers f bs)
+  read-fields : (bs : List ℕ) (a : A) → readBytes f bs ≡ reading 0 a → (f .ok a ≡ true) × (f .numbers a ≡ rowNumbers f bs)
   read-fields bs a e = numbers-back (rowNumbers f bs) a (length-row bs) (passed bs a e .numbers)
 
   -- and is what they were parsed as

@@ -100,7 +100,7 @@ imageBytes l i = toBytes (imageFormat l) i
 unfoldable pub writeImage : Limits → Image → List ℕ → Wrote
 writeImage l i bs = writeBytes (imageFormat l) i bs bs
 
--- ---- what functions on an image's bytes promise; the calls' contracts say the same of whole images
+-- ---- what inner functions promise, and no public contract says
 
 -- where the tallies stand, and the tally at a place
 abbrev pub checksAt : ℕ
@@ -121,7 +121,7 @@ unfoldable pub heldFrom : Tally → ℕ → ℕ → List Cell
 heldFrom t s zero = []
 heldFrom t s (suc k) = record { estimate = held t s } ∷ heldFrom t (suc s) k
 
--- a tally without what stands in unmarked places; of a well-formed one that is nothing
+-- a tally with every unmarked place blank; a well-formed one is so already
 abbrev pub asMarked : Tally → Tally
 asMarked t = record { marks = t .marks; cells = heldFrom t 0 senders }
 

@@ -87,7 +87,7 @@ readLog l bs = readBytes (logFormat l) bs
 unfoldable pub writeLog : Limits → Log → List ℕ → Wrote
 writeLog l r bs = writeBytes (logFormat l) r bs bs
 
--- ---- what an inner function promises, and no public contract says
+-- ---- what inner functions promise, and no public contract says
 
 -- the engine of a log or an image, unknown also where the zero byte is not 0
 abbrev pub engineAt : List ℕ → EngineRead

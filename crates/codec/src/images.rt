@@ -108,6 +108,7 @@ fn places_at(s: &[u8], at: usize, split: bool, n: u8) -> bool
     ensures { λ r. ⌜ r ≡ placesOk today split n (tallyAt at (now (s .entry))) ⌝ }
 {
     let marks = numbers::be16(s, at);
+    // without marks one pass
     if marks == 0 {
         return blanks_at(s, at + AT_CELLS);
     }
@@ -175,7 +176,7 @@ pub fn state_for(s: &[u8], log: Log) -> StateRead
     }
 }
 
-// ---- the tallies, read and written: what stands in an unmarked place is left out
+// ---- the tallies, read and written: an unmarked place is blank, whatever stands there
 fn held_at(s: &[u8], at: usize, marked: bool) -> Estimate
     requires { ⌜ at + 4 ≤ length (now s) ⌝ }
     ensures { λ r. ⌜ r ≡ cond marked (estimateOf (numAt (now (s .entry)) at 4)) Blank ⌝ }
@@ -270,7 +271,7 @@ fn put_tally(t: Tally, out: &mut [u8], at: usize)
     }
 }
 
-// A tally is written where its marks or, as `same` says, the round are others than in the bytes.
+// Writes a tally, unless the round is the same (`same`) and the bytes have its marks already.
 fn put_changed(t: Tally, same: bool, out: &mut [u8], at: usize)
     requires { ⌜ at + total tallyWidths ≤ length (now out) ⌝ }
     ensures { λ _. ⌜ now (out .exit) ≡ tallyOver at same t (now (out .entry)) ⌝ }
@@ -290,7 +291,7 @@ pub fn put_state(s: State, out: &mut [u8])
     }
 }
 
-// Stores a state and tallies in an image, what is there already left out; a buffer of another length keeps its bytes.
+// Stores a state in an image, and of the tallies those that it does not have already; a buffer of another length keeps its bytes.
 pub fn put_image(s: State, checks: Tally, seconds: Tally, out: &mut [u8])
     ensures { λ _. ⌜ now (out .exit) ≡ inImage (imageOver s checks seconds) (now (out .entry)) ⌝ }
 {

@@ -1,4 +1,4 @@
--- What every answer of a step has: no refusal, and the unit's power; a proposal writes no log and decides nothing. Assumes nothing.
+-- What every answer of a step has: no refusal, and the unit's power; a proposal writes no log, decides nothing, and leaves an image's marks. Assumes nothing.
 use Prim.Native.Nat.{ℕ}
 use mathlib.Core.Path.{_≡_, refl}
 use Rattle.tally.specs.Limits.{Limits}
@@ -6,7 +6,7 @@ use Rattle.tally.specs.declared.Estimate.the-variants.{Blank}
 use Rattle.tally.specs.declared.Refusal.{Refusal}
 use Rattle.contents.specs.declared.Message.{Message}
 use Rattle.consensus.specs.Methods.{proposeRows, propose, deliverRows, deliver}
-use Rattle.consensus.specs.Step.{logWrite, atRound, sendFirst, proposed, takeFirst, takeSecond, checksWith, close, secondsWith, onKind, skip, received}
+use Rattle.consensus.specs.Step.{withCurrent, logWrite, atRound, sendFirst, proposed, takeFirst, takeSecond, checksWith, close, secondsWith, onKind, skip, received}
 use Rattle.consensus.specs.Units.{unitLog, unitImage}
 use Rattle.consensus.specs.declared.Answer.{Answer}
 use Rattle.consensus.specs.declared.Unit as U
@@ -60,9 +60,7 @@ unfolding propose
 propose-keeps l u v = by-unless (Keeps u) (proposeRows l u v) u (proposed u v) (proposed-keeps u v) (λ k. (refl, refl))
 
 -- and leaves all of an image but its state
-pub propose-image : (l : Limits) (u : U.Unit) (v : ℕ)
-    → unitImage (propose l u v .unit) ≡ record { settings = u .settings; state = propose l u v .unit .current; checks = u .checks; seconds = u .seconds }
+pub propose-image : (l : Limits) (u : U.Unit) (v : ℕ) → unitImage (propose l u v .unit) ≡ unitImage (withCurrent u (propose l u v .unit .current))
 unfolding propose proposed sendFirst
 propose-image l u v =
-    by-unless (λ a. unitImage (a .unit) ≡ record { settings = u .settings; state = a .unit .current; checks = u .checks; seconds = u .seconds })
-    (proposeRows l u v) u (proposed u v) refl (λ k. refl)
+    by-unless (λ a. unitImage (a .unit) ≡ unitImage (withCurrent u (a .unit .current))) (proposeRows l u v) u (proposed u v) refl (λ k. refl)

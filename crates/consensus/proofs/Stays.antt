@@ -89,30 +89,31 @@ held-cleared : (t : Tally) → SameHeld t noMarks
 unfolding noMarks
 held-cleared t same s = held-unmarked noMarks refl s ∙ sym (held-unmarked t (sym same) s)
 
-abbrev pub Tallies : U.Unit → U.Unit → Type 0
-Tallies u v = v .current .round ≡ u .current .round → SameHeld (u .checks) (v .checks) × SameHeld (u .seconds) (v .seconds)
+-- where the round stays, tallies of the same marks hold the same
+abbrev pub TalliesStay : U.Unit → U.Unit → Type 0
+TalliesStay u v = v .current .round ≡ u .current .round → SameHeld (u .checks) (v .checks) × SameHeld (u .seconds) (v .seconds)
 
 abbrev TalliesTo : U.Unit → Answer → Type 0
-TalliesTo u a = Tallies u (a .unit)
+TalliesTo u a = TalliesStay u (a .unit)
+
+pub tallies-same : (u : U.Unit) → TalliesStay u u
+tallies-same u e = (same-held (u .checks), same-held (u .seconds))
 
 tallies-kind : (k : Kind) (u : U.Unit) (m : Message) → TalliesTo u (onKind k u m)
 unfolding takeFirst takeSecond checksWith secondsWith close logWrite atRound
 tallies-kind k u m =
     by-kind (TalliesTo u) k u m
     (record {
-      nothing = same;
-      first = λ _ _. same;
+      nothing = tallies-same u;
+      first = λ _ _. tallies-same u;
       checks = λ _ _ new. by-check (TalliesTo u) u _ (λ _ e. (held-cleared (u .checks), same-held (u .seconds)))
           (λ _ e. (held-marked (u .checks) (m .sender) (m .estimate) new, same-held (u .seconds)));
       seconds = λ _ new. by-second (TalliesTo u) u _ (λ _ e. absurd (omega arith))
           (λ _ e. (same-held (u .checks), held-marked (u .seconds) (m .sender) (m .estimate) new));
     })
-  where
-    same : Tallies u u
-    same e = (same-held (u .checks), same-held (u .seconds))
 
-pub tallies-stay : (u : U.Unit) (m : Message) → Tallies u (received u m .unit)
+pub tallies-stay : (u : U.Unit) (m : Message) → TalliesStay u (received u m .unit)
 unfolding skip atRound
 tallies-stay u m =
-    by-round (TalliesTo u) u m (λ _ e. (same-held (u .checks), same-held (u .seconds))) (λ _. tallies-kind (m .kind) u m)
+    by-round (TalliesTo u) u m (λ _. tallies-same u) (λ _. tallies-kind (m .kind) u m)
     (λ h e. absurd (omega (arith, stays-kind (m .kind) (atRound u (m .round) (m .proposal)) m .round)))

@@ -88,7 +88,7 @@ impl Unit {
         }
     }
 
-    // A delivery whose caller has read the message, and found it to be for this unit, which is up: 7 is the one refusal left.
+    // A delivery of a message found well formed and for this unit, which is up: 7 is the one refusal left.
     fn deliver_read(self, m: Message) -> Answer
         requires { ⌜ messageOk today m ≡ true ⌝ }
         ensures { λ r. ⌜ r ≡ deliverRead today self m ⌝ }

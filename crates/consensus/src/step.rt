@@ -235,7 +235,7 @@ impl Unit {
     }
 
     // If the proposal is blank it becomes the mileage given.
-    pub fn proposed(self, mileage: u32) -> Answer
+    pub(crate) fn proposed(self, mileage: u32) -> Answer
         ensures { λ r. ⌜ r ≡ proposed self mileage ⌝ }
     {
         let current = self.current;

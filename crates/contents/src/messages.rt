@@ -8,6 +8,7 @@ ghost use mathlib.Core.Path.{_≡_};
 ghost use Rattle.tally.specs.Limits.{today};
 ghost use Rattle.contents.specs.Messages.{isEmpty, firstOk, checkOk, secondOk, skipOk, kindOk, messageOk};
 
+// An empty message counts as no message.
 pub fn is_empty(kind: Kind) -> bool
     ensures { λ r. ⌜ r ≡ isEmpty kind ⌝ }
 {

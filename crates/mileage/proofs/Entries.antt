@@ -29,8 +29,7 @@ use Rattle.codec.proofs.LogFormat as log
 use Rattle.codec.proofs.MessageFormat as message
 use Rattle.codec.proofs.RoundTrips.{refused-number}
 use Rattle.codec.proofs.Steps.{stored-contents}
-use Rattle.mileage.specs.Calls.{wrongLength, unitLengths, badLog, badSettings, badMessage, logBytes}
-use Rattle.mileage.specs.Calls.{settingsNarrow}
+use Rattle.mileage.specs.Calls.{wrongLength, unitLengths, badLog, badSettings, badMessage, logBytes, settingsNarrow}
 
 neither : (a b : Bool) → (a || b) ≡ false → (a ≡ false) × (b ≡ false)
 neither false false e = (refl, refl)
@@ -105,10 +104,9 @@ module _ (l : Limits) where
   unit-sizes log image e =
       let h = neither (wrongLength log (logSize l)) _ e in (size log (logSize l) (h .0), size image (imageSize l) (h .1))
 
-  pub propose-sizes : (log image out : List ℕ) → (unitLengths l log image || wrongLength out (messageSize l)) ≡ false
-      → (length image ≡ imageSize l) × (length out ≡ messageSize l)
-  propose-sizes log image out e =
-      let h = neither (unitLengths l log image) _ e in (unit-sizes log image (h .0) .1, size out (messageSize l) (h .1))
+  -- the output buffer is the last that is looked at
+  pub out-size : (others : Bool) (out : List ℕ) → (others || wrongLength out (messageSize l)) ≡ false → length out ≡ messageSize l
+  out-size others out e = size out (messageSize l) (neither others _ e .1)
 
   -- ---- what is stored
 
@@ -119,8 +117,3 @@ module _ (l : Limits) where
   pub image-stored : (i : Image) (bs : List ℕ) → length bs ≡ imageSize l → stored (imageFormat l) i bs ≡ imageBytes l i
   unfolding imageBytes
   image-stored i bs e = stored-contents (imageFormat l) bs i e
-
-  pub deliver-size : (log image message out : List ℕ)
-      → (unitLengths l log image || wrongLength message (messageSize l) || wrongLength out (messageSize l)) ≡ false → length out ≡ messageSize l
-  deliver-size log image message out e =
-      size out (messageSize l) (neither (unitLengths l log image || wrongLength message (messageSize l)) (wrongLength out (messageSize l)) e .1)

@@ -9,7 +9,6 @@ use lib.ListN.{length, length-replicate}
 use borrow.Author.Tests.{eq-eqb}
 use Rattle.tally.specs.Limits.{today, blankCode, imageSize, messageSize}
 use Rattle.tally.specs.Refusal.{numberOf}
-use Rattle.tally.specs.Tally.{held}
 use Rattle.tally.specs.declared.Refusal.{Refusal}
 use Rattle.tally.specs.declared.Tally.{Tally}
 use Rattle.tally.proofs.Bounds.{sane-today}
@@ -38,7 +37,7 @@ use Rattle.consensus.specs.declared.Unit as U
 use Rattle.consensus.proofs.Answers.{plain-received, plain-proposed, propose-keeps, propose-image}
 use Rattle.consensus.proofs.Branches.{by-unless}
 use Rattle.consensus.proofs.Soundness.{sound-deliver}
-use Rattle.consensus.proofs.Stays.{SameHeld, Tallies, tallies-stay}
+use Rattle.consensus.proofs.Stays.{SameHeld, TalliesStay, tallies-same, tallies-stay}
 use Rattle.mileage.specs.Calls.{Called, called, answered, messageBytes, storedMessage, storedProposal, storedAnswer}
 use Rattle.mileage.proofs.Encoded.{read-log}
 use Rattle.mileage.proofs.Entries.{log-stored}
@@ -68,7 +67,7 @@ module _ (log image : List ℕ) (u : U.Unit) (h : Held log image u) where
   image-length = ap length (h .image-bytes) ∙ length-image (unitImage u) (w .checks, w .seconds)
 
   -- the image of a unit whose tallies are others only where their marks or the round are
-  over : (v : U.Unit) → WellFormed today v → v .settings ≡ u .settings → Tallies u v
+  over : (v : U.Unit) → WellFormed today v → v .settings ≡ u .settings → TalliesStay u v
       → inImage (imageOver (v .current) (v .checks) (v .seconds)) image ≡ imageBytes today (unitImage v)
   unfolding inImage w
   over v x settings kept =
@@ -81,7 +80,7 @@ module _ (log image : List ℕ) (u : U.Unit) (h : Held log image u) where
       ∙ ap (λ (s : Settings). imageBytes today (withTallies (record { settings = s; state = v .current }) (v .checks) (v .seconds))) (sym settings))
 
   module _ (out : List ℕ) (empty : out ≡ emptyBytes today) where
-    message-there : (m : Message) → storedMessage today m out ≡ messageBytes today (m .kind) m
+    message-there : (m : Message) → storedMessage m out ≡ messageBytes today (m .kind) m
     unfolding storedMessage messageBytes
     message-there m = go (m .kind)
       where
@@ -105,19 +104,19 @@ module _ (log image : List ℕ) (u : U.Unit) (h : Held log image u) where
 
     -- ---- a delivery
 
-    pub deliver-there : (m : Message) → storedAnswer today (deliver today u m) log image out blankCode ≡ answered today (deliver today u m)
+    pub answer-stored : (m : Message) → storedAnswer (deliver today u m) log image out blankCode ≡ answered today (deliver today u m)
     unfolding storedAnswer deliver w
-    deliver-there m = go (eqb (numberOf (a .refusal)) 0) refl
+    answer-stored m = go (eqb (numberOf (a .refusal)) 0) refl
       where
         a : Answer
         a = deliver today u m
 
-        kept : Tallies u (a .unit)
-        kept = by-unless (λ a. Tallies u (a .unit)) (deliverRows today u m) u (received u m) (tallies-stay u m) (λ k e. (λ e s. refl, λ e s. refl))
+        kept : TalliesStay u (a .unit)
+        kept = by-unless (λ a. TalliesStay u (a .unit)) (deliverRows today u m) u (received u m) (tallies-stay u m) (λ k. tallies-same u)
 
         go : (b : Bool) → eqb (numberOf (a .refusal)) 0 ≡ b
             → cond b (called (numberOf (a .refusal)) (stored (logFormat today) (unitLog (a .unit)) log)
-            (inImage (imageOver (a .unit .current) (a .unit .checks) (a .unit .seconds)) image) (storedMessage today (a .message) out) (codeOf (a .decision)))
+            (inImage (imageOver (a .unit .current) (a .unit .checks) (a .unit .seconds)) image) (storedMessage (a .message) out) (codeOf (a .decision)))
             (called (numberOf (a .refusal)) log image out blankCode) ≡ answered today a
         go false e = refused-there (deliverRows today u m) (received u m) (plain-received u m .none) e
         go true e =
@@ -127,10 +126,10 @@ module _ (log image : List ℕ) (u : U.Unit) (h : Held log image u) where
 
     -- ---- a proposal
 
-    pub propose-there : (v : ℕ) (c : Called) → c ≡ storedProposal today (propose today u v) image out
+    pub proposal-stored : (v : ℕ) (c : Called) → c ≡ storedProposal (propose today u v) image out
         → called (c .number) log (c .image) (c .out) blankCode ≡ answered today (propose today u v)
     unfolding storedProposal inImage propose
-    propose-there v c stored = rw stored (go (eqb (numberOf (a .refusal)) 0) refl)
+    proposal-stored v c stored = rw stored (go (eqb (numberOf (a .refusal)) 0) refl)
       where
         a : Answer
         a = propose today u v
@@ -140,7 +139,7 @@ module _ (log image : List ℕ) (u : U.Unit) (h : Held log image u) where
 
         go : (b : Bool) → eqb (numberOf (a .refusal)) 0 ≡ b
             → in-log (cond b
-            (called (numberOf (a .refusal)) [] (inImage (stateOver (a .unit .current)) image) (storedMessage today (a .message) out) blankCode)
+            (called (numberOf (a .refusal)) [] (inImage (stateOver (a .unit .current)) image) (storedMessage (a .message) out) blankCode)
             (called (numberOf (a .refusal)) [] image out blankCode)) ≡ answered today a
         go false e = refused-there (proposeRows today u v) (proposed u v) (plain-proposed u v .none) e
         go true e =

@@ -5,14 +5,13 @@ use mathlib.Core.List.{List, [], _∷_}
 use mathlib.Core.Path.{_≡_}
 use lib.Dec.{eqb, ltb}
 use lib.ListN.{length}
-use Rattle.tally.specs.Limits.{Limits, blankCode, logSize, imageSize, messageSize}
+use Rattle.tally.specs.Limits.{Limits, today, blankCode, logSize, imageSize, messageSize}
 use Rattle.tally.specs.Refusal.{numberOf}
 use Rattle.tally.specs.declared.Engine.the-variants.{B}
 use Rattle.tally.specs.declared.Refusal.{Refusal}
 use Rattle.contents.specs.Images.{fits}
 use Rattle.contents.specs.Logs.{numbersOk}
 use Rattle.contents.specs.Messages.{isEmpty}
-use Rattle.contents.specs.declared.Image.{Image}
 use Rattle.contents.specs.declared.Kind.{Kind}
 use Rattle.contents.specs.declared.Kind.the-variants.{Empty, First, Check, Second, Skip}
 use Rattle.contents.specs.declared.Log.{Log}
@@ -182,21 +181,21 @@ pub record Refusing (l : Limits) (rows : List Row) (log image out : List ℕ) (c
 unfoldable pub settingsNarrow : ℕ → ℕ → ℕ → ℕ → Bool
 settingsNarrow engine n unit entry = ltb engine (256 ^ 1) && ltb n (256 ^ 1) && ltb unit (256 ^ 1) && ltb entry (256 ^ 2)
 
--- an empty message leaves the buffer
-unfoldable pub storedMessage : Limits → Message → List ℕ → List ℕ
-storedMessage l m out = cond (isEmpty (m .kind)) out (stored (messageFormat l) m out)
+-- a message stored in a cleared buffer: an empty one leaves it
+unfoldable pub storedMessage : Message → List ℕ → List ℕ
+storedMessage m out = cond (isEmpty (m .kind)) out (stored (messageFormat today) m out)
 
--- a proposal that refuses nothing is stored: of the image its state alone, and no log
-unfoldable pub storedProposal : Limits → Answer → List ℕ → List ℕ → Called
-storedProposal l a image out =
+-- a proposal that refuses nothing is stored, of the image its state alone; no bytes stand for the log, which it does not write
+unfoldable pub storedProposal : Answer → List ℕ → List ℕ → Called
+storedProposal a image out =
     cond (eqb (numberOf (a .refusal)) 0)
-    (called (numberOf (a .refusal)) [] (inImage (stateOver (a .unit .current)) image) (storedMessage l (a .message) out) blankCode)
+    (called (numberOf (a .refusal)) [] (inImage (stateOver (a .unit .current)) image) (storedMessage (a .message) out) blankCode)
     (called (numberOf (a .refusal)) [] image out blankCode)
 
 -- an answer that refuses nothing is stored, its image over the one before it; a refusal leaves all as it is
-unfoldable pub storedAnswer : Limits → Answer → List ℕ → List ℕ → List ℕ → ℕ → Called
-storedAnswer l a log image out d =
+unfoldable pub storedAnswer : Answer → List ℕ → List ℕ → List ℕ → ℕ → Called
+storedAnswer a log image out d =
     cond (eqb (numberOf (a .refusal)) 0)
-    (called (numberOf (a .refusal)) (stored (logFormat l) (unitLog (a .unit)) log)
-    (inImage (imageOver (a .unit .current) (a .unit .checks) (a .unit .seconds)) image) (storedMessage l (a .message) out) (codeOf (a .decision)))
+    (called (numberOf (a .refusal)) (stored (logFormat today) (unitLog (a .unit)) log)
+    (inImage (imageOver (a .unit .current) (a .unit .checks) (a .unit .seconds)) image) (storedMessage (a .message) out) (codeOf (a .decision)))
     (called (numberOf (a .refusal)) log image out d)

@@ -22,8 +22,8 @@ pub(crate) fn wrong_lengths(log: &[u8], image: &[u8]) -> bool
 }
 
 // Stores a message in a cleared buffer, which holds the empty message already.
-pub(crate) fn put_message(m: Message, out: &mut [u8])
-    ensures { λ _. ⌜ now (out .exit) ≡ storedMessage today m (now (out .entry)) ⌝ }
+fn put_message(m: Message, out: &mut [u8])
+    ensures { λ _. ⌜ now (out .exit) ≡ storedMessage m (now (out .entry)) ⌝ }
 {
     let kind = m.kind;
     if contents::messages::is_empty(kind) {
@@ -35,7 +35,7 @@ pub(crate) fn put_message(m: Message, out: &mut [u8])
 // Stores what a proposal answers, unless it refuses: no log, and of the image its state alone.
 pub(crate) fn put_proposal(a: Answer, image: &mut [u8], out: &mut [u8]) -> u32
     ensures { λ r. ⌜ called r [] (now (image .exit)) (now (out .exit)) blankCode
-        ≡ storedProposal today a (now (image .entry)) (now (out .entry)) ⌝ }
+        ≡ storedProposal a (now (image .entry)) (now (out .entry)) ⌝ }
 {
     let refusal = a.refusal;
     let number = tally::number(refusal);
@@ -55,7 +55,7 @@ pub(crate) fn put_answer(
     decision: &mut u32,
 ) -> u32
     ensures { λ r. ⌜ called r (now (log .exit)) (now (image .exit)) (now (out .exit)) (now (decision .exit))
-        ≡ storedAnswer today a (now (log .entry)) (now (image .entry)) (now (out .entry)) (now (decision .entry)) ⌝ }
+        ≡ storedAnswer a (now (log .entry)) (now (image .entry)) (now (out .entry)) (now (decision .entry)) ⌝ }
 {
     let refusal = a.refusal;
     let number = tally::number(refusal);

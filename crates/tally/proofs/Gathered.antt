@@ -34,26 +34,6 @@ all-counted v (e ∷ es) = go (holds v e) (all-counted v es)
     go true h = h ∙ sym (eqb·suc-suc (passing (holds v) es) (length es))
     go false h = sym (ne-eqb (passing (holds v) es) (suc (length es)) (λ e. omega (arith, passing-le (holds v) es)))
 
--- the common mileage by counting the holders of the lowest sender's
-abbrev pub counted : List Estimate → Estimate → Estimate
-counted es Blank = Split
-counted es Split = Split
-counted es (Mileage v) = cond (eqb (holders v es) (length es)) (Mileage v) Split
-
-few : (es : List Estimate) (f : Estimate) → ((v : ℕ) → holders v es < length es) → Split ≡ counted es f
-few es Blank h = refl
-few es Split h = refl
-few es (Mileage v) h = rw (ne-eqb (holders v es) (length es) (λ e. omega (arith, h v)))
-
-pub common-counted : (es : List Estimate) → common es ≡ counted es (lowest es)
-unfolding common lowest firstPassing allHold holders
-common-counted [] = refl
-common-counted (Blank ∷ es) = few (Blank ∷ es) (firstPassing anyMileage es) (λ v. omega (arith, passing-le (holds v) es))
-common-counted (Split ∷ es) = few (Split ∷ es) (firstPassing anyMileage es) (λ v. omega (arith, passing-le (holds v) es))
-common-counted (Mileage v ∷ es) =
-    let same : allHold v es ≡ (eqb v v && allHold v es) = rw (eq-eqb v v refl) in
-    ap (λ (b : Bool). cond b (Mileage v) Split) (same ∙ all-counted v (Mileage v ∷ es))
-
 -- what is common to those that all agree so far, as a loop has it, and to more
 abbrev pub after : Estimate → List Estimate → Estimate
 after Blank es = common es

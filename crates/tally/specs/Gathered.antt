@@ -55,9 +55,9 @@ leads need es (Mileage v) = leb need (holders v es)
 unfoldable pub majority : ℕ → List Estimate → Estimate
 majority need es = firstPassing (leads need es) es
 
--- ---- what an inner function promises, and no public contract cites
+-- ---- what inner functions promise, and no public contract says
 
--- a mileage that goes with those so far, which are blank where there are none, and else the mileage that all hold
+-- the mileage that all so far hold; blank is none so far, with which any mileage agrees
 abbrev pub agrees : Estimate → Estimate → Bool
 agrees Blank e = anyMileage e
 agrees Split e = false

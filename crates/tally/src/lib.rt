@@ -107,7 +107,7 @@ fn with_mark(marks: u16, sender: u8) -> u16
 }
 
 // Is it a mileage, whichever?
-pub fn any_mileage(e: Estimate) -> bool
+fn any_mileage(e: Estimate) -> bool
     ensures { λ r. ⌜ r ≡ anyMileage e ⌝ }
 {
     match e {
@@ -175,7 +175,7 @@ impl Tally {
     }
 
     // How many of the marked hold the mileage v.
-    pub fn holders(self, v: u32) -> u32
+    fn holders(self, v: u32) -> u32
         ensures { λ r. ⌜ r ≡ holders v (gathered self) ⌝ }
     {
         let mut found: u32 = 0;
@@ -230,7 +230,7 @@ impl Tally {
     }
 
     // Is it a mileage that at least `need` of the marked hold?
-    pub fn leads(self, need: u32, e: Estimate) -> bool
+    fn leads(self, need: u32, e: Estimate) -> bool
         ensures { λ r. ⌜ r ≡ leads need (gathered self) e ⌝ }
     {
         match e {

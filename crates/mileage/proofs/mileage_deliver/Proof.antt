@@ -1,14 +1,15 @@
 use mathlib.Core.Path.{sym, ap, _∙_}
+use mathlib.Core.Bool.{_||_}
 use native.Mathlib.Omega.{arith}
-use Rattle.tally.specs.Limits.{today}
+use Rattle.tally.specs.Limits.{today, messageSize}
 use Rattle.tally.proofs.Bounds.{sane-today}
 use Rattle.codec.specs.Logs.{logReading}
 use Rattle.codec.specs.Messages.{messageReading}
 use Rattle.consensus.specs.Rows.{firstOf}
-use Rattle.mileage.specs.Calls.{deliverCallRows, deliverCall}
-use Rattle.mileage.proofs.Entries.{log-refused, message-refused, deliver-size}
+use Rattle.mileage.specs.Calls.{wrongLength, unitLengths, deliverCallRows, deliverCall}
+use Rattle.mileage.proofs.Entries.{log-refused, message-refused, out-size}
 use Rattle.mileage.proofs.Held.{cleared-empty, log-good, image-bad, image-good, unit-read, held, deliver-held}
-use Rattle.mileage.proofs.Stored.{deliver-there}
+use Rattle.mileage.proofs.Stored.{answer-stored}
 use borrow.Author.Needs.{needs}
 use Rattle.mileage.proofs.mileage_deliver.Statement.{statement}
 use Rattle.mileage.proofs.mileage_deliver.Tie as tie
@@ -72,13 +73,14 @@ returns-5 c =
     let read = sym (ap logReading (l .l .given .1)) ∙ l .before .before .read-log .ensures in
     let fit = sym (i .before .before .state-for .ensures) ∙ i .state .given .1 in
     let right = rw (s .before .before .before .before .before .wrong-lengths .ensures) at (s .if1 .left) in
-    let size = deliver-size today (start .log .now) (start .image .now) (start .message .now) (start .out .now) right in
+    let others = unitLengths today (start .log .now) (start .image .now) || wrongLength (start .message .now) (messageSize today) in
+    let size = out-size today others (start .out .now) right in
     let unit = (rw (a .before .before .seconds-of .ensures, a .before .before .before .before .checks-of .ensures) at (a .before .up .ensures))
     ∙ unit-read _ _ _ read _ fit (λ k. omega (arith, known .before .before .slice-known2 .given k)) in
     let h = held _ _ _ read _ fit (λ k. omega (arith, known .before .before .slice-known2 .given k))
     (λ k. omega (arith, known .before .before .before .slice-known .given k)) in
     (rw (a .deliver .ensures, unit) at (p .put-answer .ensures))
-    ∙ deliver-there _ _ _ h _ (cleared-empty _ _ (s .before .before .before .clear .ensures) size) _
+    ∙ answer-stored _ _ _ h _ (cleared-empty _ _ (s .before .before .before .clear .ensures) size) _
     ∙ deliver-held _ _ _ h (start .out .now) size (start .message .now) _ (λ k. omega (arith, known .before .shared-slice-known .given k))
     (sym (ap messageReading (m .m .given .1)) ∙ m .before .before .read-message .ensures)
 

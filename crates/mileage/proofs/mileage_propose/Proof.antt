@@ -4,10 +4,10 @@ use Rattle.tally.specs.Limits.{today}
 use Rattle.tally.proofs.Bounds.{sane-today}
 use Rattle.codec.specs.Logs.{logReading}
 use Rattle.consensus.specs.Rows.{firstOf}
-use Rattle.mileage.specs.Calls.{proposeCallRows, proposeCall}
-use Rattle.mileage.proofs.Entries.{log-refused, propose-sizes}
+use Rattle.mileage.specs.Calls.{unitLengths, proposeCallRows, proposeCall}
+use Rattle.mileage.proofs.Entries.{log-refused, out-size}
 use Rattle.mileage.proofs.Held.{cleared-empty, log-good, image-bad, unit-read, held, propose-held}
-use Rattle.mileage.proofs.Stored.{propose-there}
+use Rattle.mileage.proofs.Stored.{proposal-stored}
 use borrow.Author.Needs.{needs}
 use Rattle.mileage.proofs.mileage_propose.Statement.{statement}
 use Rattle.mileage.proofs.mileage_propose.Tie as tie
@@ -51,12 +51,12 @@ returns-4 c =
     let read = sym (ap logReading (l .l .given .1)) ∙ l .before .before .read-log .ensures in
     let fit = sym (i .before .before .state-for .ensures) ∙ i .state .given .1 in
     let right = rw (s .before .before .before .before .before .wrong-lengths .ensures) at (s .if1 .left) in
-    let size = propose-sizes today (start .log .now) (start .image .now) (start .out .now) right .1 in
+    let size = out-size today (unitLengths today (start .log .now) (start .image .now)) (start .out .now) right in
     let unit = (rw (a .before .before .seconds-of .ensures, a .before .before .before .before .checks-of .ensures) at (a .before .up .ensures))
     ∙ unit-read _ _ _ read _ fit (λ k. omega (arith, known .before .slice-known .given k)) in
     let h = held _ _ _ read _ fit (λ k. omega (arith, known .before .slice-known .given k))
     (λ k. omega (arith, known .before .before .shared-slice-known .given k)) in
-    propose-there _ _ _ h _ (cleared-empty _ _ (s .before .before .before .clear .ensures) size) _ _
+    proposal-stored _ _ _ h _ (cleared-empty _ _ (s .before .before .before .clear .ensures) size) _ _
     (rw (a .propose .ensures, unit) at (p .put-proposal .ensures))
     ∙ propose-held _ _ _ h (start .out .now) size _
 
