@@ -103,12 +103,12 @@ fn place_at(s: &[u8], at: usize, split: bool, n: u8, sender: u8, marked: bool) -
     }
 }
 
+// A tally without marks is tested in one pass.
 fn places_at(s: &[u8], at: usize, split: bool, n: u8) -> bool
     requires { ⌜ at + total tallyWidths ≤ length (now s) ⌝ }
     ensures { λ r. ⌜ r ≡ placesOk today split n (tallyAt at (now (s .entry))) ⌝ }
 {
     let marks = numbers::be16(s, at);
-    // without marks one pass
     if marks == 0 {
         return blanks_at(s, at + AT_CELLS);
     }
