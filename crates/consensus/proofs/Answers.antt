@@ -6,7 +6,8 @@ use Rattle.tally.specs.declared.Estimate.the-variants.{Blank}
 use Rattle.tally.specs.declared.Refusal.{Refusal}
 use Rattle.contents.specs.declared.Message.{Message}
 use Rattle.consensus.specs.Methods.{proposeRows, propose, deliverRows, deliver}
-use Rattle.consensus.specs.Step.{withCurrent, logWrite, atRound, sendFirst, proposed, takeFirst, takeSecond, checksWith, close, secondsWith, onKind, skip, received}
+use Rattle.consensus.specs.Step.{withCurrent, logWrite, atRound, sendFirst, proposed, takeFirst, takeSecond}
+use Rattle.consensus.specs.Step.{checksWith, close, secondsWith, onKind, skip, received}
 use Rattle.consensus.specs.Units.{unitLog, unitImage}
 use Rattle.consensus.specs.declared.Answer.{Answer}
 use Rattle.consensus.specs.declared.Unit as U
