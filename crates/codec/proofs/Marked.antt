@@ -33,11 +33,14 @@ unfolding heldFrom
 length-held t s zero = refl
 length-held t s (suc k) = ap suc (length-held t (suc s) k)
 
--- tallies that hold the same
-pub held-alike : (a b : Tally) → ((s : ℕ) → held b s ≡ held a s) → (s k : ℕ) → heldFrom b s k ≡ heldFrom a s k
+-- tallies that hold the same of every sender
+held-alike : (a b : Tally) → ((s : ℕ) → held b s ≡ held a s) → (s k : ℕ) → heldFrom b s k ≡ heldFrom a s k
 unfolding heldFrom
 held-alike a b same s zero = refl
 held-alike a b same s (suc k) = rw (same s, held-alike a b same (suc s) k)
+
+pub same-marked : (a b : Tally) → b .marks ≡ a .marks → ((s : ℕ) → held b s ≡ held a s) → asMarked b ≡ asMarked a
+same-marked a b e same = ap₂ (λ (m : ℕ) (cs : List Cell). record { marks = m; cells = cs }) e (held-alike a b same 0 senders)
 
 -- without marks all are blank
 held-blank : (t : Tally) → t .marks ≡ 0 → (s k : ℕ) → heldFrom t s k ≡ replicate k blankCell

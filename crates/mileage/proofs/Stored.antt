@@ -25,7 +25,7 @@ use Rattle.codec.specs.Formats.{stored}
 use Rattle.codec.specs.Images.{asMarked, imageBytes, stateOver, imageOver, inImage, withTallies}
 use Rattle.codec.specs.Logs.{logFormat}
 use Rattle.codec.specs.Messages.{messageFormat, emptyBytes}
-use Rattle.codec.proofs.Marked.{as-marked, held-alike}
+use Rattle.codec.proofs.Marked.{as-marked, same-marked}
 use Rattle.codec.proofs.Places.{length-image, state-written, image-over}
 use Rattle.codec.proofs.Steps.{stored-contents}
 use Rattle.consensus.specs.Methods.{proposeRows, propose, deliverRows, deliver, unless}
@@ -37,7 +37,7 @@ use Rattle.consensus.specs.declared.Unit as U
 use Rattle.consensus.proofs.Answers.{plain-received, plain-proposed, propose-keeps, propose-image}
 use Rattle.consensus.proofs.Branches.{by-unless}
 use Rattle.consensus.proofs.Soundness.{sound-deliver}
-use Rattle.consensus.proofs.Stays.{SameHeld, TalliesStay, tallies-same, tallies-stay}
+use Rattle.consensus.proofs.Stays.{TalliesStay, tallies-same, tallies-stay}
 use Rattle.mileage.specs.Calls.{Called, called, answered, messageBytes, storedMessage, storedProposal, storedAnswer}
 use Rattle.mileage.proofs.Encoded.{read-log}
 use Rattle.mileage.proofs.Entries.{log-stored}
@@ -52,9 +52,6 @@ module _ (u : U.Unit) (w : WellFormed today u) where
   all-seconds : asMarked (u .seconds) ≡ u .seconds
   all-seconds =
       as-marked today (isB (u .settings .engine)) _ _ (u .seconds) (image-facts today (unitImage u) (w .image) .seconds) (w .seconds)
-
-same-marked : (a b : Tally) → SameHeld a b → b .marks ≡ a .marks → asMarked b ≡ asMarked a
-same-marked a b same e = ap₂ (λ m cs. record { marks = m; cells = cs }) e (held-alike a b (same e) 0 _)
 
 -- ---- what is written
 
@@ -74,9 +71,10 @@ module _ (log image : List ℕ) (u : U.Unit) (h : Held log image u) where
       rw (eq-eqb _ _ image-length, h .image-bytes)
       (image-over (unitImage u) (v .current) (v .checks) (v .seconds) (w .checks, w .seconds) (x .checks) (x .seconds)
       (omega (arith, log-facts today _ (image-facts today (unitImage u) (w .image) .log) .state .round))
-      (λ r e. same-marked (u .checks) (v .checks) (kept r .0) e ∙ all-checks u w)
-      (λ r e. same-marked (u .seconds) (v .seconds) (kept r .1) e ∙ all-seconds u w)
-      ∙ ap₂ (λ (c d : Tally). imageBytes today (withTallies (record { settings = u .settings; state = v .current }) c d)) (all-checks v x) (all-seconds v x)
+      (λ r e. same-marked (u .checks) (v .checks) e (kept r .0 e) ∙ all-checks u w)
+      (λ r e. same-marked (u .seconds) (v .seconds) e (kept r .1 e) ∙ all-seconds u w)
+      ∙ ap₂ (λ (c d : Tally). imageBytes today (withTallies (record { settings = u .settings; state = v .current }) c d))
+      (all-checks v x) (all-seconds v x)
       ∙ ap (λ (s : Settings). imageBytes today (withTallies (record { settings = s; state = v .current }) (v .checks) (v .seconds))) (sym settings))
 
   module _ (out : List ℕ) (empty : out ≡ emptyBytes today) where

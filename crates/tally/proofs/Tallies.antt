@@ -54,7 +54,8 @@ module _ (P : Estimate → Bool) (t : Tally) (s : ℕ) (below : s < senders) whe
 
 -- the same, for what is common
 pub after-step : (a : Estimate) (t : Tally) (s : ℕ) → s < senders
-    → after a (rest t s) ≡ cond (isMarked (t .marks) s) (cond (agrees a (placed t s)) (after (placed t s) (rest t (s + 1))) Split) (after a (rest t (s + 1)))
+    → after a (rest t s)
+    ≡ cond (isMarked (t .marks) s) (cond (agrees a (placed t s)) (after (placed t s) (rest t (s + 1))) Split) (after a (rest t (s + 1)))
 after-step a t s below = ap (after a) (rest-step t s below) ∙ go (isMarked (t .marks) s) (rest t (s + 1))
   where
     go : (b : Bool) (es : List Estimate)
