@@ -13,7 +13,7 @@ use Rattle.consensus.specs.Sound.{From}
 use Rattle.consensus.specs.declared.Unit as U
 use Rattle.agreement.specs.Worlds.{Setup, settingsOf, Decision, put}
 use Rattle.agreement.proofs.Votes.{isVote, Unique, Chosen, quorum-up}
-use Rattle.agreement.proofs.Invariant.{Backed, Sent, Stands, Kept, Member, Invariant, backed-up, fair-up}
+use Rattle.agreement.proofs.Invariant.{Backed, FairMessage, Stands, VotesStand, Member, Invariant, backed-up, fair-up}
 
 -- a message that unit u, with its log at s, sends
 pub record New (l : Limits) (c : Setup) (X : Message → Type 0) (A : ℕ → Type 0) (u : ℕ) (s : State) (m : Message) : Type 0 where
@@ -27,15 +27,15 @@ module _ (l : Limits) (c : Setup) {X Y : Message → Type 0} {A C : ℕ → Type
     (up : (m : Message) → X m → Y m) (more : (v : ℕ) → A v → C v)
     (back : (m : Message) → Y m → X m ⊎ New l c X C u (x .logged) m)
     (decs : (d : Decision) → E d → D d ⊎ Chosen c X C (d .round) (d .mileage)) where
-  kept-with : (v : ℕ) (s : State) → Kept c X v s
-      → ((m : Message) → New l c X C u (x .logged) m → isVote (m .kind) ≡ true → v ≡ u → Stands c s m) → Kept c Y v s
+  kept-with : (v : ℕ) (s : State) → VotesStand c X v s
+      → ((m : Message) → New l c X C u (x .logged) m → isVote (m .kind) ≡ true → v ≡ u → Stands c s m) → VotesStand c Y v s
   kept-with v s kept stands m y t by = go (back m y)
     where
       go : X m ⊎ New l c X C u (x .logged) m → (m .round < s .round) ⊎ Stands c s m
       go (inl h) = kept m h t by
       go (inr n) = inr (stands m n t (sym by ∙ n .from .sender))
 
-  kept-here : Kept c Y u (x .logged)
+  kept-here : VotesStand c Y u (x .logged)
   kept-here = kept-with u (x .logged) (member .kept) (λ m n t e. n .stands t)
 
   -- a new vote is what the log holds, and so is any other vote of its round
@@ -73,7 +73,7 @@ module _ (l : Limits) (c : Setup) {X Y : Message → Type 0} {A C : ℕ → Type
           let kept = kept-with v (N v .logged) (i .kept) (λ m n t q. absurd (eqb-false v u e q)) in
           record { well-formed = i .well-formed; settings = i .settings; fair = fair-up c up more (N v) (i .fair); kept = kept }
 
-      message : (m : Message) → X m ⊎ New l c X C u (x .logged) m → Sent l c Y C m
+      message : (m : Message) → X m ⊎ New l c X C u (x .logged) m → FairMessage l c Y C m
       message m (inl h) = let i = inv .sent m h in record { from = i .from; backed = backed-up c up more m (i .backed) }
       message m (inr n) =
           record { from = subst (λ v. From l (settingsOf c v) m) (sym (n .from .sender)) (n .from); backed = backed-up c up (λ v h. h) m (n .backed) }

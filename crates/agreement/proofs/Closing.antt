@@ -35,7 +35,7 @@ use Rattle.consensus.proofs.Full.{Proper, voted, others, holds-mileage, full-vo
 use Rattle.consensus.proofs.Full.{next-r-voted}
 use Rattle.agreement.specs.Worlds.{Setup, Many}
 use Rattle.agreement.proofs.Votes.{Of, of, holds-not, meet, isVote, Vote, Unique, quorum, Quorum, Blocked, Sure, Chosen, one-quorum}
-use Rattle.agreement.proofs.Invariant.{Sent, Tallied, vote-sure, quorum-sure}
+use Rattle.agreement.proofs.Invariant.{FairMessage, Tallied, vote-sure, quorum-sure}
 
 -- ---- what well-formed votes say
 
@@ -96,7 +96,7 @@ module _ (X : Message → Type 0) (k : Kind) (r : ℕ) where
 
 -- ---- votes sent
 
-module _ (l : Limits) (c : Setup) (X : Message → Type 0) (A : ℕ → Type 0) (sent : (m : Message) → X m → Sent l c X A m) where
+module _ (l : Limits) (c : Setup) (X : Message → Type 0) (A : ℕ → Type 0) (sent : (m : Message) → X m → FairMessage l c X A m) where
   pub kind-ok : (k : Kind) (m : Message) → X m → m .kind ≡ k → kindOk l k m ≡ true
   kind-ok k m s e = subst (λ j. kindOk l j m ≡ true) e (message-facts l m (sent m s .from .well-formed) .kind)
 

@@ -17,12 +17,12 @@ use Rattle.contents.specs.declared.Kind.{Kind}
 use Rattle.contents.specs.declared.Kind.the-variants.{Empty, First, Check, Second, Skip}
 use Rattle.contents.specs.declared.Message.{Message}
 use Rattle.contents.proofs.Facts.{known-or-blank}
-use Rattle.codec.specs.Codes.{kindLetter}
-use Rattle.codec.specs.Images.{imageBytes}
-use Rattle.codec.specs.Numbers.{bytesOf}
-use Rattle.codec.proofs.Letters.{estimate-code}
+use Rattle.formats.specs.Codes.{kindLetter}
+use Rattle.formats.specs.Images.{imageBytes}
+use Rattle.formats.specs.Numbers.{bytesOf}
+use Rattle.formats.proofs.Letters.{estimate-code}
 use Rattle.consensus.specs.Methods as D
-use Rattle.consensus.specs.Rows.{Row, firstOf, NoneHolds}
+use Rattle.consensus.specs.Conditions.{Condition, firstOf, NoneHolds}
 use Rattle.consensus.specs.Units.{WellFormed, unitLog, unitImage, downUnit, atLog}
 use Rattle.consensus.specs.declared.Answer.{Answer}
 use Rattle.consensus.specs.Step.{recovered}
@@ -31,10 +31,10 @@ use Rattle.consensus.proofs.Answers.{propose-power, deliver-power}
 use Rattle.consensus.specs.declared.Power.{Power}
 use Rattle.consensus.specs.declared.Power.the-variants.{Down, Up}
 use Rattle.consensus.specs.declared.Unit as U
-use Rattle.mileage.specs.Calls.{Called, wrongLength, unitLengths, Refusing, logBytes, messageBytes, proposeCall, deliverCall, keyOnCall, proposeCallRows}
-use Rattle.mileage.specs.Calls.{answered, deliverCallRows, keyOnCallRows}
-use Rattle.mileage.proofs.Encoded.{propose-encoded, deliver-encoded, key-on-encoded}
-use Rattle.mileage.proofs.Rows.{propose-refusing, deliver-refusing, key-on-refusing}
+use Rattle.calls.specs.Calls.{CallAnswer, wrongLength, unitLengths, Refusing, logBytes, messageBytes, proposeCall, deliverCall, keyOnCall}
+use Rattle.calls.specs.Calls.{proposeCallConditions, answered, deliverCallConditions, keyOnCallConditions}
+use Rattle.calls.proofs.Encoded.{propose-encoded, deliver-encoded, key-on-encoded}
+use Rattle.calls.proofs.Refusals.{propose-refusing, deliver-refusing, key-on-refusing}
 use Rattle.agreement.specs.Bytes as B
 use Rattle.agreement.specs.Bytes.{UnitBytes, ByteWorld, up, down, unlessEmpty, allZero}
 use Rattle.agreement.specs.Contents as C
@@ -120,19 +120,19 @@ or-length false bs k h = eqb-true (length bs) k (not-false (eqb (length bs) k) h
 
 -- after an event the world has the bytes of the same contents, or of those after an event of theirs
 abbrev pub Follows : Limits → ℕ → ByteWorld → ContentsWorld → Type 0
-Follows l n b w = Encodes l n b w ⊎ ((e : C.Event) × Encodes l n b (C.step l n w e))
+Follows l n b w = Encodes l n b w ⊎ ((e : C.ContentsEvent) × Encodes l n b (C.step l n w e))
 
 -- a refused call leaves log and image as they were
-record Unchanged (old-log old-image : List ℕ) (c : Called) : Type 0 where
+record Unchanged (old-log old-image : List ℕ) (c : CallAnswer) : Type 0 where
   number : eqb (c .number) 0 ≡ false
   log : c .log ≡ old-log
   image : c .image ≡ old-image
 
-unchanged : (l : Limits) (rows : List Row) (log image out : List ℕ) (c : Called) → Refusing l rows log image out c → eqb (c .number) 0 ≡ false
+unchanged : (l : Limits) (cs : List Condition) (log image out : List ℕ) (c : CallAnswer) → Refusing l cs log image out c → eqb (c .number) 0 ≡ false
     → Unchanged log image c
-unchanged l rows log image out c r e =
+unchanged l cs log image out c r e =
     let same = r .refused (eqb-false (c .number) 0 e) in
-    record { number = e; log = ap (λ (x : Called). x .log) same; image = ap (λ (x : Called). x .image) same }
+    record { number = e; log = ap (λ (x : CallAnswer). x .log) same; image = ap (λ (x : CallAnswer). x .image) same }
 
 module _ (l : Limits) (sane : Sane l) (n : ℕ) (b : ByteWorld) (w : ContentsWorld) (enc : Encodes l n b w) (u : ℕ) where
   -- what an accepted step answered is what the call did, as bytes
@@ -155,7 +155,7 @@ module _ (l : Limits) (sane : Sane l) (n : ℕ) (b : ByteWorld) (w : ContentsWor
     encodes-cut = rw (eq-eqb (numberOf (a .refusal)) 0 number, on) (encodes-change l n b w enc u _ _ (λ h. refl))
 
   -- a refused call leaves all units with their bytes
-  module _ (on : w .units u .power ≡ Up) (c : Called) (kept : Unchanged (logBytes l (unitLog (w .units u))) (imageBytes l (unitImage (w .units u))) c) where
+  module _ (on : w .units u .power ≡ Up) (c : CallAnswer) (kept : Unchanged (logBytes l (unitLog (w .units u))) (imageBytes l (unitImage (w .units u))) c) where
     encodes-up : Encodes l n (change b u (up (c .log) (c .image))) w
     encodes-up = encodes-same l n b w enc u (up (c .log) (c .image)) (λ h. rw (kept .log, kept .image, on))
 
@@ -172,10 +172,10 @@ module _ (l : Limits) (sane : Sane l) (n : ℕ) (b : ByteWorld) (w : ContentsWor
     refused-cut = rw (kept .number) encodes-up
 
 -- a call, accepted or refused, and what an event makes of its answer
-module _ (l : Limits) (n : ℕ) (w : ContentsWorld) (rows : List Row) (log image out : List ℕ) (c : Called)
-    (law : Refusing l rows log image out c) (a : Answer)
-    (same : NoneHolds rows → c ≡ answered l a) (f : Called → ByteWorld) where
-  follow : (e : C.Event) → (numberOf (a .refusal) ≡ 0 → Encodes l n (f (answered l a)) (C.step l n w e))
+module _ (l : Limits) (n : ℕ) (w : ContentsWorld) (cs : List Condition) (log image out : List ℕ) (c : CallAnswer)
+    (law : Refusing l cs log image out c) (a : Answer)
+    (same : NoneHolds cs → c ≡ answered l a) (f : CallAnswer → ByteWorld) where
+  follow : (e : C.ContentsEvent) → (numberOf (a .refusal) ≡ 0 → Encodes l n (f (answered l a)) (C.step l n w e))
       → (Unchanged log image c → Encodes l n (f c) w)
       → Follows l n (f c) w
   follow e accepted refused = go (eqb (c .number) 0) refl
@@ -185,9 +185,9 @@ module _ (l : Limits) (n : ℕ) (w : ContentsWorld) (rows : List Row) (log image
           let q = same (law .number .accepted (eqb-true (c .number) 0 h)) in
           inr (
             e,
-            subst (λ z. Encodes l n (f z) (C.step l n w e)) (sym q) (accepted (ap (λ (r : Called). r .number) (sym q) ∙ eqb-true (c .number) 0 h)),
+            subst (λ z. Encodes l n (f z) (C.step l n w e)) (sym q) (accepted (ap (λ (r : CallAnswer). r .number) (sym q) ∙ eqb-true (c .number) 0 h)),
           )
-      go false h = inl (refused (unchanged l rows log image out c law h))
+      go false h = inl (refused (unchanged l cs log image out c law h))
 
 module _ (l : Limits) (sane : Sane l) (n : ℕ) (b : ByteWorld) (w : ContentsWorld) (enc : Encodes l n b w) (valid : Valid l n w)
     (u : ℕ) (below : u < n) where
@@ -208,9 +208,9 @@ module _ (l : Limits) (sane : Sane l) (n : ℕ) (b : ByteWorld) (w : ContentsWor
         (sound-propose l (w .units u) v (valid .units u below) .decision) number v)
 
     pub on-proposal : (v : ℕ) → Follows l n (B.afterProposal b u v (proposeCall l log image v out)) w
-    unfolding proposeCallRows
+    unfolding proposeCallConditions
     on-proposal v =
-        follow l n w (proposeCallRows l log image v out) log image out (proposeCall l log image v out) (propose-refusing l log image v out)
+        follow l n w (proposeCallConditions l log image v out) log image out (proposeCall l log image v out) (propose-refusing l log image v out)
         (D.propose l (w .units u) v)
         (λ none. propose-encoded l sane (w .units u) (valid .units u below) on v out (or-length (unitLengths l log image) out (messageSize l) (none .0)))
         (B.afterProposal b u v) (C.proposal u v) (step-proposal v)
@@ -218,16 +218,16 @@ module _ (l : Limits) (sane : Sane l) (n : ℕ) (b : ByteWorld) (w : ContentsWor
 
     module _ (m : Message) (ok : messageOk l m ≡ true) where
       -- an accepted delivery's answer, as bytes, where f is what the event makes of it and e is of contents
-      abbrev pub Delivers : (Called → ByteWorld) → C.Event → Type 0
+      abbrev pub Delivers : (CallAnswer → ByteWorld) → C.ContentsEvent → Type 0
       Delivers f e =
           numberOf (D.deliver l (w .units u) m .refusal) ≡ 0 → Encodes l n (f (answered l (D.deliver l (w .units u) m))) (C.step l n w e)
 
       -- a delivery or a cut of it
-      on-message : (f : Called → ByteWorld) (e : C.Event) → Delivers f e → ((c : Called) → Unchanged log image c → Encodes l n (f c) w)
+      on-message : (f : CallAnswer → ByteWorld) (e : C.ContentsEvent) → Delivers f e → ((c : CallAnswer) → Unchanged log image c → Encodes l n (f c) w)
           → Follows l n (f (deliverCall l log image (sentBytes l m) out)) w
-      unfolding deliverCallRows
+      unfolding deliverCallConditions
       on-message f e accepted refused =
-          follow l n w (deliverCallRows l log image (sentBytes l m) out) log image out (deliverCall l log image (sentBytes l m) out)
+          follow l n w (deliverCallConditions l log image (sentBytes l m) out) log image out (deliverCall l log image (sentBytes l m) out)
           (deliver-refusing l log image (sentBytes l m) out) (D.deliver l (w .units u) m)
           (λ none. deliver-encoded l sane (w .units u) (valid .units u below) on m out ok
           (or-length (unitLengths l log image || wrongLength (sentBytes l m) (messageSize l)) out (messageSize l) (none .0)))
@@ -277,10 +277,10 @@ module _ (l : Limits) (sane : Sane l) (n : ℕ) (b : ByteWorld) (w : ContentsWor
         (encodes-change l n b w enc u _ _ (λ h. rw off))
 
     pub on-key : Follows l n (B.afterKeyOn b u (keyOnCall l log buffer)) w
-    unfolding B.afterKeyOn keyOnCallRows unitLengths
+    unfolding B.afterKeyOn keyOnCallConditions unitLengths
     on-key = go (eqb (c .number) 0) refl
       where
-        c : Called
+        c : CallAnswer
         c = keyOnCall l log buffer
 
         go : (t : Bool) → eqb (c .number) 0 ≡ t → Follows l n (B.afterKeyOn b u c) w
@@ -288,5 +288,5 @@ module _ (l : Limits) (sane : Sane l) (n : ℕ) (b : ByteWorld) (w : ContentsWor
             let none = key-on-refusing l log buffer .number .accepted (eqb-true (c .number) 0 e) in
             inr (C.on u, step-on (or-length (wrongLength log (logSize l)) buffer (imageSize l) (none .0)))
         go false e =
-            let kept = unchanged l (keyOnCallRows l log buffer) log buffer [] c (key-on-refusing l log buffer) e in
+            let kept = unchanged l (keyOnCallConditions l log buffer) log buffer [] c (key-on-refusing l log buffer) e in
             inl (rw e (encodes-same l n b w enc u (down (c .log)) (λ h. rw (kept .log, off))))

@@ -14,11 +14,11 @@ use Rattle.contents.specs.Messages.{messageOk}
 use Rattle.contents.specs.declared.Message.{Message}
 use Rattle.consensus.specs.declared.Power.{Power}
 use Rattle.consensus.specs.declared.Power.the-variants.{Down, Up}
-use Rattle.codec.specs.Formats.{Reading}
-use Rattle.codec.specs.Images.{imageBytes}
+use Rattle.formats.specs.Formats.{ReadAnswer}
+use Rattle.formats.specs.Images.{imageBytes}
 use Rattle.consensus.specs.Units.{unitLog, unitImage}
-use Rattle.mileage.specs.Calls.{Called, logBytes, deliverCall}
-use Rattle.mileage.proofs.Encoded.{read-message}
+use Rattle.calls.specs.Calls.{CallAnswer, logBytes, deliverCall}
+use Rattle.calls.proofs.Encoded.{read-message}
 use Rattle.agreement.specs.Bytes.{afterCut, ByteWorld, Event, proposal, delivery, cut, off, on, call, proposalOf, delivering, keyOnOf, ofUnit, roundOf}
 use Rattle.agreement.specs.Bytes.{after, step, LawfulEvent}
 use Rattle.agreement.specs.Contents.{ContentsWorld}
@@ -61,11 +61,11 @@ module _ (l : Limits) (sane : Sane l) (n : ℕ) (b : ByteWorld) (w : ContentsWor
         go Down e = inl enc
 
     -- the call that delivers m
-    abbrev called : Message → List ℕ → Called
+    abbrev called : Message → List ℕ → CallAnswer
     called m out = deliverCall l (logBytes l (unitLog (w .units u))) (imageBytes l (unitImage (w .units u))) (sentBytes l m) out
 
     -- and by whether the message was sent
-    delivering-of : (k : ℕ) (out : List ℕ) (f : List ℕ → Called → ByteWorld)
+    delivering-of : (k : ℕ) (out : List ℕ) (f : List ℕ → CallAnswer → ByteWorld)
         → (w .units u .power ≡ Up → (m : Message) → messageOk l m ≡ true → getElem? (w .sent) k ≡ some m
         → Follows l n (f (sentBytes l m) (called m out)) w)
         → Follows l n (delivering l b u out f (b .units u .image) (getElem? (b .sent) k)) w
@@ -85,7 +85,7 @@ module _ (l : Limits) (sane : Sane l) (n : ℕ) (b : ByteWorld) (w : ContentsWor
         → Follows l n (delivering l b u out (λ m c. after b u (roundOf l m) c) (b .units u .image) (getElem? (b .sent) k)) w
     delivery-of k out =
         delivering-of k out (λ m c. after b u (roundOf l m) c) λ e m ok h.
-        subst (λ r. Follows l n (after b u r (called m out)) w) (ap (λ (r : Reading Message). r .contents .round) (sym (read-message l sane m ok .0)))
+        subst (λ r. Follows l n (after b u r (called m out)) w) (ap (λ (r : ReadAnswer Message). r .contents .round) (sym (read-message l sane m ok .0)))
         (on-delivery l sane n b w enc valid u below e out m ok k h)
 
     key-on-of : (buffer : List ℕ) → Follows l n (keyOnOf l b u buffer (b .units u .image)) w

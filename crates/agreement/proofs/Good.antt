@@ -30,8 +30,8 @@ use Rattle.contents.proofs.Facts.{message-facts, image-facts}
 use Rattle.contents.proofs.KindRules.{check-mileage}
 use Rattle.contents.proofs.Same.{Fits, state-fits}
 use Rattle.contents.proofs.Tests.{both-true}
-use Rattle.consensus.specs.Methods.{unless, proposeRows, propose, deliverRows, deliver, keyOff, keyOn}
-use Rattle.consensus.specs.Rows.{Row}
+use Rattle.consensus.specs.Methods.{unless, proposeConditions, propose, deliverConditions, deliver, keyOff, keyOn}
+use Rattle.consensus.specs.Conditions.{Condition}
 use Rattle.consensus.specs.Step.{emptyMessage, quiet, says, withFirst, withSecond, logWrite, atRound, orIfBlank, sendFirst, proposed, voteKind, voteProposal}
 use Rattle.consensus.specs.Step.{takeFirst, isFull, takeSecond, checksWith, close, secondsWith, onKind, skip, received, recovered}
 use Rattle.consensus.specs.Units.{WellFormed, unitImage, atLog, downUnit}
@@ -44,12 +44,12 @@ use Rattle.consensus.proofs.Full.{Proper, proper-mark, proper-none, proper-unit
 use Rattle.agreement.specs.Worlds.{Setup, settingsOf}
 use Rattle.agreement.proofs.Closing.{tallied-none, tallied-mark, kind-ok, filled, common-quorum, next-sure, chosen}
 use Rattle.agreement.proofs.Votes.{Of, of, isVote, Unique, quorum, Quorum, Sure, sure-of, Chosen}
-use Rattle.agreement.proofs.Invariant.{Backed, Sent, Member, half, slot, Stands, Kept, Tallied, Fair, quorum-sure}
+use Rattle.agreement.proofs.Invariant.{Backed, FairMessage, Member, half, slot, Stands, VotesStand, Tallied, Fair, quorum-sure}
 
 -- of an answer of unit u to a message of round r: what its unit, message and decision are
 pub record Good (c : Setup) (X : Message → Type 0) (A : ℕ → Type 0) (u r : ℕ) (a : Answer) : Type 0 where
   pub fair : Fair c X A (a .unit)
-  pub kept : Kept c X u (a .unit .logged)
+  pub kept : VotesStand c X u (a .unit .logged)
   pub message : (a .message .kind ≡ Empty → ⊥)
       → Backed c X A (a .message) × (isVote (a .message .kind) ≡ true → Stands c (a .unit .logged) (a .message))
   pub decision : Of (Chosen c X A r) (a .decision)
@@ -83,10 +83,10 @@ ready l c u x w =
 ready-above : (c : Setup) (x : U.Unit) (r : ℕ) (p : Estimate) → Ready c x → x .current .round < r → Ready c (atRound x r p)
 unfolding atRound noMarks ones
 ready-above c x r p i h =
-    record { fits = inl (go (i .fits)); checks = none; seconds = none; few = omega (arith, quorum-half (c .engine) (c .n)) }
+    record { fits = inl (go (i .fits), (refl, refl)); checks = none; seconds = none; few = omega (arith, quorum-half (c .engine) (c .n)) }
   where
     go : Fits (x .current) (x .logged) → x .logged .round < r
-    go (inl q) = omega arith
+    go (inl q) = omega (arith, q .0)
     go (inr q) = omega (arith, q .0)
 
     none : Proper (c .n) noMarks
@@ -99,11 +99,11 @@ module _ (c : Setup) (X : Message → Type 0) (A : ℕ → Type 0) where
   fair-none x p q logged current = record { logged = logged; current = current; checks = rw p (tallied-none X _ _); seconds = rw q (tallied-none X _ _) }
 
   -- an answer without message and decision
-  good-silent : (k : Refusal) (u r : ℕ) (x : U.Unit) → Fair c X A x → Kept c X u (x .logged)
+  good-silent : (k : Refusal) (u r : ℕ) (x : U.Unit) → Fair c X A x → VotesStand c X u (x .logged)
       → Good c X A u r (record { refusal = k; unit = x; message = emptyMessage; decision = Blank })
   good-silent k u r x f kept = record { fair = f; kept = kept; message = λ h. absurd (h refl); decision = tt }
 
-  good-skip : (u r to : ℕ) (x : U.Unit) → Fair c X A x → Kept c X u (x .logged) → Good c X A u r (skip x to)
+  good-skip : (u r to : ℕ) (x : U.Unit) → Fair c X A x → VotesStand c X u (x .logged) → Good c X A u r (skip x to)
   unfolding skip says
   good-skip u r to x f kept =
       record {
@@ -113,7 +113,7 @@ module _ (c : Setup) (X : Message → Type 0) (A : ℕ → Type 0) where
         decision = tt;
       }
 
-  good-proposed : (u r : ℕ) (x : U.Unit) (v : ℕ) → A v → Fair c X A x → Kept c X u (x .logged) → Good c X A u r (proposed x v)
+  good-proposed : (u r : ℕ) (x : U.Unit) (v : ℕ) → A v → Fair c X A x → VotesStand c X u (x .logged) → Good c X A u r (proposed x v)
   unfolding proposed sendFirst says
   good-proposed u r x v a f kept =
       let s = given (x .current .proposal) (f .current) in
@@ -132,12 +132,12 @@ module _ (c : Setup) (X : Message → Type 0) (A : ℕ → Type 0) where
       given Split s = s
       given (Mileage w) s = s
 
-  -- a call that one of its rows refuses changes nothing
-  good-unless : (u r : ℕ) (rows : List Row) (x : U.Unit) (a : Answer) → Fair c X A x → Kept c X u (x .logged) → Good c X A u r a
-      → Good c X A u r (unless rows x a)
-  good-unless u r rows x a f kept good = by-unless (Good c X A u r) rows x a good (λ k. good-silent k u r x f kept)
+  -- a call that one of its conditions refuses changes nothing
+  good-unless : (u r : ℕ) (cs : List Condition) (x : U.Unit) (a : Answer) → Fair c X A x → VotesStand c X u (x .logged) → Good c X A u r a
+      → Good c X A u r (unless cs x a)
+  good-unless u r cs x a f kept good = by-unless (Good c X A u r) cs x a good (λ k. good-silent k u r x f kept)
 
-  module _ (u r : ℕ) (x : U.Unit) (f : Fair c X A x) (kept : Kept c X u (x .logged)) where
+  module _ (u r : ℕ) (x : U.Unit) (f : Fair c X A x) (kept : VotesStand c X u (x .logged)) where
     rest : (p : Power) → Good c X A u r (quiet (atLog p (x .settings) (x .logged)))
     unfolding atLog
     rest p = good-silent Refusal.None u r _ (fair-none _ refl refl (f .logged) (f .logged)) kept
@@ -152,15 +152,15 @@ module _ (c : Setup) (X : Message → Type 0) (A : ℕ → Type 0) where
 
     pub good-propose : (l : Limits) (v : ℕ) → A v → Good c X A u r (propose l x v)
     unfolding propose
-    good-propose l v a = good-unless u r (proposeRows l x v) x (proposed x v) f kept (good-proposed u r x v a f kept)
+    good-propose l v a = good-unless u r (proposeConditions l x v) x (proposed x v) f kept (good-proposed u r x v a f kept)
 
 -- ---- a message delivered
 
-module _ (l : Limits) (c : Setup) (X : Message → Type 0) (A : ℕ → Type 0) (sent : (m : Message) → X m → Sent l c X A m) (unique : Unique X) where
-  module _ (u : ℕ) (x : U.Unit) (i : Ready c (seated c u x)) (f : Fair c X A (seated c u x)) (kept : Kept c X u (x .logged)) where
+module _ (l : Limits) (c : Setup) (X : Message → Type 0) (A : ℕ → Type 0) (sent : (m : Message) → X m → FairMessage l c X A m) (unique : Unique X) where
+  module _ (u : ℕ) (x : U.Unit) (i : Ready c (seated c u x)) (f : Fair c X A (seated c u x)) (kept : VotesStand c X u (x .logged)) where
     -- a state of the current round that has each estimate which was not blank has what was voted
     kept-on : (s : State) → s .round ≡ x .current .round → ((b : Bool) → isBlank (half b (x .current)) ≡ false → half b s ≡ half b (x .current))
-        → Kept c X u s
+        → VotesStand c X u s
     kept-on s same stays m here t by = go (i .fits) (kept m here t by)
       where
         halves : (x .logged .first ≡ x .current .first) × (x .logged .second ≡ x .current .second) → (b : Bool)
@@ -172,8 +172,8 @@ module _ (l : Limits) (c : Setup) (X : Message → Type 0) (A : ℕ → Type 0) 
         k = slot (c .engine) (m .kind)
 
         go : Fits (x .current) (x .logged) → (m .round < x .logged .round) ⊎ Stands c (x .logged) m → (m .round < s .round) ⊎ Stands c s m
-        go (inl h) (inl i) = inl (omega arith)
-        go (inl h) (inr i) = inl (omega (arith, i .0))
+        go (inl h) (inl i) = inl (omega (arith, h .0))
+        go (inl h) (inr i) = inl (omega (arith, h .0, i .0))
         go (inr h) (inl i) = inl (omega (arith, h .0))
         go (inr h) (inr i) =
             let e : half k (x .current) ≡ m .estimate = sym (halves (h .1) k) ∙ i .1 in
@@ -285,7 +285,7 @@ module _ (l : Limits) (c : Setup) (X : Message → Type 0) (A : ℕ → Type 0) 
                 (λ h. good-silent c X A Refusal.None u _ _ (record { logged = f .logged; current = f .current; checks = f .checks; seconds = t }) kept);
           })
 
-  good-received : (u : ℕ) (x : U.Unit) → Ready c (seated c u x) → Fair c X A (seated c u x) → Kept c X u (x .logged) → (m : Message) → X m
+  good-received : (u : ℕ) (x : U.Unit) → Ready c (seated c u x) → Fair c X A (seated c u x) → VotesStand c X u (x .logged) → (m : Message) → X m
       → Good c X A u (m .round) (received (seated c u x) m)
   unfolding atRound
   good-received u x i f kept m here =
@@ -297,7 +297,7 @@ module _ (l : Limits) (c : Setup) (X : Message → Type 0) (A : ℕ → Type 0) 
   pub good-deliver : (u : ℕ) (x : U.Unit) → Member l c X A u x → (m : Message) → X m → Good c X A u (m .round) (deliver l x m)
   unfolding deliver
   good-deliver u x i m here =
-      good-unless c X A u (m .round) (deliverRows l x m) x (received x m) (i .fair) (i .kept)
+      good-unless c X A u (m .round) (deliverConditions l x m) x (received x m) (i .fair) (i .kept)
       (subst (λ y. Good c X A u (m .round) (received y m)) (sym seat)
       (good-received u x (ready l c u x (subst (WellFormed l) seat (i .well-formed))) (subst (Fair c X A) seat (i .fair)) (i .kept) m here))
     where

@@ -2,8 +2,8 @@
 use Prim.Native.Nat.{ℕ, zero, suc, _<_}
 use mathlib.Core.Path.{_≡_, refl, sym, ap, subst, _∙_}
 use mathlib.Core.Bool.{Bool, true, false, cond}
-use mathlib.Core.List.{List, [], _∷_, _++_, List·Memᴰ, List·Memᴰ·head, List·Memᴰ·tail, List·Memᴰ·not-nil}
-use mathlib.Core.List.{Memᴰ·append-left, Memᴰ·append-right, List·Memᴰ·append-cases, List·Memᴰ·eq-of-singleton}
+use mathlib.Core.List.{List, [], _∷_, _++_, List·Memᴰ, List·Memᴰ·head, List·Memᴰ·tail, List·Memᴰ·not-nil, Memᴰ·append-left, Memᴰ·append-right}
+use mathlib.Core.List.{List·Memᴰ·append-cases, List·Memᴰ·eq-of-singleton}
 use mathlib.Core.Logic.{_⊎_, inl, inr}
 use mathlib.Core.Option.{Option, none, some}
 use native.Mathlib.Omega.{arith}
@@ -25,8 +25,8 @@ use Rattle.consensus.specs.Step.{emptyMessage, fresh, proposed}
 use Rattle.consensus.specs.Units.{WellFormed, atLog}
 use Rattle.consensus.specs.declared.Answer.{Answer}
 use Rattle.consensus.specs.declared.Unit as U
-use Rattle.agreement.specs.Contents.{ContentsWorld, Event, proposal, delivery, cut, off, on, eventUnit, begun, unlessEmpty, accepted, after, afterCut}
-use Rattle.agreement.specs.Contents.{afterProposal, delivering, apply, step, view, AgreedContents}
+use Rattle.agreement.specs.Contents.{ContentsWorld, ContentsEvent, proposal, delivery, cut, off, on, eventUnit, begun, unlessEmpty, accepted, after}
+use Rattle.agreement.specs.Contents.{afterCut, afterProposal, delivering, apply, step, view, AgreedContents}
 use Rattle.agreement.specs.Worlds.{Setup, settingsOf, Proposal, Decision, put, change, keep, report, decision, run, Given, Locked, Many, Seconded}
 use Rattle.consensus.proofs.Answers.{propose-keeps}
 use Rattle.consensus.proofs.Soundness.{sound-propose, sound-deliver, sound-key-off, sound-key-on, well-fresh}
@@ -247,7 +247,7 @@ module _ (l : Limits) (c : Setup) (w : ContentsWorld) (inv : Inv l c w) where
           if (accepted (deliver l (w .units u) m))
           (λ h. off-next (deliver l (w .units u) m .unit) (member A (m .round) (w .units u) (here .settings) _ sound good))
 
-  apply-next : (e : Event) → eventUnit e < c .n → Next l c w (apply l w e)
+  apply-next : (e : ContentsEvent) → eventUnit e < c .n → Next l c w (apply l w e)
   unfolding apply delivering
   apply-next (proposal u v) b = proposal-next u (inv .units u b) v
   apply-next (delivery u k) b =
@@ -257,16 +257,16 @@ module _ (l : Limits) (c : Setup) (w : ContentsWorld) (inv : Inv l c w) where
   apply-next (off u) b = off-next u (inv .units u b) (w .units u) (inv .units u b)
   apply-next (on u) b = on-next u (inv .units u b) (w .units u) (inv .units u b)
 
-  step-next : (e : Event) → Next l c w (step l (c .n) w e)
+  step-next : (e : ContentsEvent) → Next l c w (step l (c .n) w e)
   unfolding step
   step-next e = if (ltb (eventUnit e) (c .n)) (λ h. apply-next e (ltb-true _ _ h))
 
 -- ---- the invariant over a history
 
-pub step-inv : (l : Limits) (c : Setup) (w : ContentsWorld) (e : Event) → Inv l c w → Inv l c (step l (c .n) w e)
+pub step-inv : (l : Limits) (c : Setup) (w : ContentsWorld) (e : ContentsEvent) → Inv l c w → Inv l c (step l (c .n) w e)
 step-inv l c w e i = step-next l c w i e .inv
 
-pub run-inv : (l : Limits) (c : Setup) (w : ContentsWorld) (es : List Event) → Inv l c w → Inv l c (run (step l (c .n)) w es)
+pub run-inv : (l : Limits) (c : Setup) (w : ContentsWorld) (es : List ContentsEvent) → Inv l c w → Inv l c (run (step l (c .n)) w es)
 unfolding run
 run-inv l c w [] inv = inv
 run-inv l c w (e ∷ es) inv = run-inv l c (step l (c .n) w e) es (step-inv l c w e inv)
@@ -303,24 +303,24 @@ module _ (l : Limits) (c : Setup) (w : ContentsWorld) (inv : Inv l c w) where
 -- ---- demand 3
 
 module _ (l : Limits) (c : Setup) where
-  abbrev to : ContentsWorld → List Event → ContentsWorld
+  abbrev to : ContentsWorld → List ContentsEvent → ContentsWorld
   to w es = run (step l (c .n)) w es
 
-  pub run-later : (w : ContentsWorld) (es : List Event) → Inv l c w → Later w (to w es)
+  pub run-later : (w : ContentsWorld) (es : List ContentsEvent) → Inv l c w → Later w (to w es)
   unfolding run
   run-later w [] inv = now w
   run-later w (e ∷ es) inv =
       let n = step-next l c w inv e in
       and-later (n .later) (run-later (step l (c .n) w e) es (n .inv))
 
-  pub step-later : (w : ContentsWorld) (e : Event) → Inv l c w → Later w (step l (c .n) w e)
+  pub step-later : (w : ContentsWorld) (e : ContentsEvent) → Inv l c w → Later w (step l (c .n) w e)
   step-later w e inv = step-next l c w inv e .later
 
   -- the mileage of what is decided was given, and of what is decided after an event it was given before it
   pub decided-given : (w : ContentsWorld) → Inv l c w → (d : Decision) → List·Memᴰ d (w .decided) → Given (d .mileage) w
   decided-given w i d h = let g = given-now l c w i d h in record { by = g .0; there = g .1 }
 
-  pub step-proposed : (w : ContentsWorld) (e : Event) → Inv l c w → (d : Decision) → List·Memᴰ d (step l (c .n) w e .decided) → Given (d .mileage) w
+  pub step-proposed : (w : ContentsWorld) (e : ContentsEvent) → Inv l c w → (d : Decision) → List·Memᴰ d (step l (c .n) w e .decided) → Given (d .mileage) w
   step-proposed w e i d h = let g = step-next l c w i e .given d h in record { by = g .0; there = g .1 }
 
   -- a state that was sure is locked by what is decided later
@@ -348,7 +348,7 @@ module _ (l : Limits) (c : Setup) where
       })
       (inv .decided d h .0)
 
-  pub agreed : (w : ContentsWorld) (es : List Event) → Inv l c w → AgreedContents l c w es
+  pub agreed : (w : ContentsWorld) (es : List ContentsEvent) → Inv l c w → AgreedContents l c w es
   agreed w es inv =
       record {
         same = agreement l c _ _ _ _ end;
@@ -366,7 +366,7 @@ module _ (l : Limits) (c : Setup) where
       end = run-inv l c w es inv
 
       -- at every time before, against the decisions of the whole history
-      ever : (xs ys : List Event) → es ≡ xs ++ ys → (u : ℕ) → u < c .n → (d : Decision) → List·Memᴰ d (to w es .decided)
+      ever : (xs ys : List ContentsEvent) → es ≡ xs ++ ys → (u : ℕ) → u < c .n → (d : Decision) → List·Memᴰ d (to w es .decided)
           → Locked d (to w xs .units u .logged) × Locked d (to w xs .units u .current)
       ever xs ys split u b d i =
           let was = run-inv l c w xs inv in
@@ -374,5 +374,5 @@ module _ (l : Limits) (c : Setup) where
           locked-later (to w xs) (to (to w xs) ys) (run-later (to w xs) ys was) was (run-inv l c (to w xs) ys was) u b d
           (subst (λ (z : ContentsWorld). List·Memᴰ d (z .decided)) whole i)
 
-  pub agreed-begun : ((u : ℕ) → u < c .n → settingsOk (settingsOf c u) ≡ true) → (es : List Event) → AgreedContents l c (begun c) es
+  pub agreed-begun : ((u : ℕ) → u < c .n → settingsOk (settingsOf c u) ≡ true) → (es : List ContentsEvent) → AgreedContents l c (begun c) es
   agreed-begun ok es = agreed (begun c) es (begun-inv l c ok)

@@ -12,7 +12,6 @@ use Rattle.tally.specs.declared.Engine.the-variants.{B}
 use Rattle.tally.specs.declared.Estimate.{Estimate}
 use Rattle.tally.specs.declared.Estimate.the-variants.{Mileage}
 use Rattle.tally.specs.declared.Tally.{Tally}
-use Rattle.tally.proofs.Quorums.{quorum-half}
 use Rattle.contents.specs.Estimates.{isB, isBlank}
 use Rattle.contents.specs.declared.Kind.{Kind}
 use Rattle.contents.specs.declared.Kind.the-variants.{Check, Second}
@@ -23,8 +22,8 @@ use Rattle.consensus.specs.Sound.{From}
 use Rattle.consensus.specs.Units.{WellFormed}
 use Rattle.consensus.specs.declared.Unit as U
 use Rattle.agreement.specs.Worlds.{Setup, settingsOf, Decision, Locked}
-use Rattle.agreement.proofs.Votes.{Of, of-map, meet, isVote, Vote, Unique, Quorum, Sure, SureOf, Chosen, one-quorum, locked}
-use Rattle.agreement.proofs.Votes.{vote-up, quorum-up, sure-up}
+use Rattle.agreement.proofs.Votes.{Of, of-map, shared, isVote, Vote, Unique, Quorum, Sure, SureOf, Chosen, one-quorum, locked, vote-up, quorum-up}
+use Rattle.agreement.proofs.Votes.{sure-up}
 
 -- what is safe in a message
 pub record Backed (c : Setup) (X : Message → Type 0) (A : ℕ → Type 0) (m : Message) : Type 0 where
@@ -33,7 +32,7 @@ pub record Backed (c : Setup) (X : Message → Type 0) (A : ℕ → Type 0) (m :
   -- B: a SECOND's mileage has a quorum of CHECKs
   pub checked : m .kind ≡ Second → c .engine ≡ B → Of (λ v. Quorum c X Check (m .round) (Mileage v)) (m .estimate)
 
-pub record Sent (l : Limits) (c : Setup) (X : Message → Type 0) (A : ℕ → Type 0) (m : Message) : Type 0 where
+pub record FairMessage (l : Limits) (c : Setup) (X : Message → Type 0) (A : ℕ → Type 0) (m : Message) : Type 0 where
   pub from : From l (settingsOf c (m .sender)) m
   pub backed : Backed c X A m
 
@@ -49,8 +48,8 @@ abbrev pub Stands : Setup → State → Message → Type 0
 Stands c s m = (m .round ≡ s .round) × (half (slot (c .engine) (m .kind)) s ≡ m .estimate)
 
 -- each vote that unit u sent stands in its log s, or is of a round below
-abbrev pub Kept : Setup → (Message → Type 0) → ℕ → State → Type 0
-Kept c X u s = (m : Message) → X m → isVote (m .kind) ≡ true → m .sender ≡ u → (m .round < s .round) ⊎ Stands c s m
+abbrev pub VotesStand : Setup → (Message → Type 0) → ℕ → State → Type 0
+VotesStand c X u s = (m : Message) → X m → isVote (m .kind) ≡ true → m .sender ≡ u → (m .round < s .round) ⊎ Stands c s m
 
 -- what is gathered was sent
 abbrev pub Tallied : (Message → Type 0) → Kind → ℕ → Tally → Type 0
@@ -66,24 +65,24 @@ pub record Member (l : Limits) (c : Setup) (X : Message → Type 0) (A : ℕ →
   pub well-formed : WellFormed l x
   pub settings : x .settings ≡ settingsOf c u
   pub fair : Fair c X A x
-  pub kept : Kept c X u (x .logged)
+  pub kept : VotesStand c X u (x .logged)
 
 pub record Invariant (l : Limits) (c : Setup) (X : Message → Type 0) (A : ℕ → Type 0) (D : Decision → Type 0) (N : ℕ → U.Unit) : Type 0 where
   pub units : (u : ℕ) → u < c .n → Member l c X A u (N u)
-  pub sent : (m : Message) → X m → Sent l c X A m
+  pub sent : (m : Message) → X m → FairMessage l c X A m
   pub unique : Unique X
   pub decided : (d : Decision) → D d → Chosen c X A (d .round) (d .mileage)
 
 -- ---- votes of the messages sent
 
-module _ (l : Limits) (c : Setup) (X : Message → Type 0) (A : ℕ → Type 0) (sent : (m : Message) → X m → Sent l c X A m) where
+module _ (l : Limits) (c : Setup) (X : Message → Type 0) (A : ℕ → Type 0) (sent : (m : Message) → X m → FairMessage l c X A m) where
   pub vote-sure : {k : Kind} {u r v : ℕ} → Vote X k u r (Mileage v) → Sure c X A r (Mileage v)
   vote-sure {v = v} a =
       subst (λ r. Sure c X A r (Mileage v)) (a .round)
       (subst (SureOf c X A (a .message .round)) (a .estimate) (sent (a .message) (a .sent) .backed .estimate))
 
   pub quorum-sure : {k : Kind} {r v : ℕ} → Quorum c X k r (Mileage v) → Sure c X A r (Mileage v)
-  quorum-sure a = vote-sure (meet (quorum-half (c .engine) (c .n)) a a .1 .0)
+  quorum-sure a = vote-sure (shared c a a .1 .0)
 
 -- ---- demand 3's claims
 

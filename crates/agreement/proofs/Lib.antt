@@ -9,3 +9,4 @@ pub mod Refused
 pub mod Follows
 pub mod Theorem
 pub mod Listing
+pub mod Cuts

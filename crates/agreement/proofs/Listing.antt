@@ -14,18 +14,18 @@ use Rattle.contents.specs.Estimates.{mileageOrBlank, mileageOrSplit, secondFits
 use Rattle.contents.specs.Logs.{stateOk, logOk}
 use Rattle.contents.specs.Images.{every, placeOk, placesOk, tallyOk, checksAllowed, imageOk, sameSettings, stateFits, fits}
 use Rattle.contents.specs.Messages.{firstOk, checkOk, secondOk, skipOk, kindOk, messageOk}
-use Rattle.codec.specs.Numbers.{numAt, bytesOf}
-use Rattle.codec.specs.Logs.{readLog}
-use Rattle.codec.specs.Messages.{readMessage, cleared}
-use Rattle.codec.specs.Images.{readImage, imageBytes}
-use Rattle.consensus.specs.Rows.{firstOf}
+use Rattle.formats.specs.Numbers.{numAt, bytesOf}
+use Rattle.formats.specs.Logs.{readLog}
+use Rattle.formats.specs.Messages.{readMessage, cleared}
+use Rattle.formats.specs.Images.{readImage, imageBytes}
+use Rattle.consensus.specs.Conditions.{firstOf}
 use Rattle.consensus.specs.Units.{atLog, downUnit}
-use Rattle.consensus.specs.Step.{says, logWrite, atRound, fresh, recovered, sendFirst, proposed, takeFirst, onFirst, isFull, takeSecond, countCheck}
-use Rattle.consensus.specs.Step.{checksWith, onCheck, nextProposal, close, countSecond, secondsWith, onSecond, onKind, skip, caughtUp, received}
-use Rattle.consensus.specs.Methods.{forOther, outOfRange, closesLast, unless, proposeRows, propose, deliverRows, deliver, keyOn}
-use Rattle.mileage.specs.Calls.{unitLengths, badLog, badSettings, badImage, badMessage, logBytes, messageBytes, startCallRows, startCall, keyOnCallRows}
-use Rattle.mileage.specs.Calls.{keyOnCall, proposeCallRows, proposeCall, deliverCallRows, deliverCall}
-use Rattle.mileage.proofs.Examples.{mileage, blank, log, unmarked, message, junk, F, C, S, K, B as letterB, R as letterR}
+use Rattle.consensus.specs.Step.{says, logWrite, atRound, fresh, recovered, sendFirst, proposed, takeFirst, onFirst, isFull, takeSecond, countCheck, checksWith}
+use Rattle.consensus.specs.Step.{onCheck, nextProposal, close, countSecond, secondsWith, onSecond, onKind, skip, caughtUp, received}
+use Rattle.consensus.specs.Methods.{forOther, outOfRange, closesLast, unless, proposeConditions, propose, deliverConditions, deliver, keyOn}
+use Rattle.calls.specs.Calls.{unitLengths, badLog, badSettings, badImage, badMessage, logBytes, messageBytes, startCallConditions, startCall}
+use Rattle.calls.specs.Calls.{keyOnCallConditions, keyOnCall, proposeCallConditions, proposeCall, deliverCallConditions, deliverCall}
+use Rattle.calls.proofs.Examples.{mileage, blank, log, unmarked, message, junk, F, C, S, K, B as letterB, R as letterR}
 use Rattle.agreement.specs.Bytes.{startOf, ByteWorld, up, Event, proposal, delivery, cut, off, on, begun, after, afterProposal, afterCut, afterKeyOn}
 use Rattle.agreement.specs.Bytes.{proposalOf, delivering, keyOnOf, step}
 use Rattle.agreement.specs.Worlds.{Setup, run}
@@ -134,9 +134,9 @@ unfolding ones holders allHold common firstPassing leads majority noMarks mark g
     mileageOrBlank mileageOrSplit secondFits sameMileage stateOk logOk every placeOk placesOk tallyOk checksAllowed imageOk sameSettings stateFits fits
     firstOk checkOk secondOk skipOk kindOk messageOk numAt bytesOf readLog readMessage cleared readImage imageBytes firstOf atLog downUnit says logWrite
     atRound fresh recovered sendFirst proposed takeFirst onFirst isFull takeSecond countCheck checksWith onCheck nextProposal close countSecond
-    secondsWith onSecond onKind skip caughtUp received forOther outOfRange closesLast unless proposeRows propose deliverRows deliver keyOn unitLengths
-    badLog badSettings badImage badMessage logBytes messageBytes startCallRows startCall keyOnCallRows keyOnCall proposeCallRows proposeCall
-    deliverCallRows deliverCall run begun after afterProposal afterCut afterKeyOn proposalOf delivering keyOnOf step
+    secondsWith onSecond onKind skip caughtUp received forOther outOfRange closesLast unless proposeConditions propose deliverConditions deliver keyOn
+    unitLengths badLog badSettings badImage badMessage logBytes messageBytes startCallConditions startCall keyOnCallConditions keyOnCall proposeCallConditions
+    proposeCall deliverCallConditions deliverCall run begun after afterProposal afterCut afterKeyOn proposalOf delivering keyOnOf step
 computed = (
   refl,
   (

@@ -10,20 +10,20 @@ use lib.ListN.{length}
 use borrow.Author.Tests.{ne-eqb}
 use Rattle.tally.specs.Limits.{Limits, Sane, messageSize}
 use Rattle.tally.proofs.Count.{Each, each-map}
-use Rattle.codec.specs.Formats.{wrote, Format, fromNumbers, readBytes, toBytes}
-use Rattle.codec.specs.Images.{imageBytes}
-use Rattle.codec.specs.Logs.{logFormat}
-use Rattle.codec.specs.Messages.{messageFormat, cleared}
-use Rattle.consensus.specs.Rows.{Row}
+use Rattle.formats.specs.Formats.{wrote, Format, fromNumbers, readBytes, toBytes}
+use Rattle.formats.specs.Images.{imageBytes}
+use Rattle.formats.specs.Logs.{logFormat}
+use Rattle.formats.specs.Messages.{messageFormat, cleared}
+use Rattle.consensus.specs.Conditions.{Condition}
 use Rattle.consensus.specs.Units.{unitLog, unitImage}
 use Rattle.consensus.specs.declared.Power.{Power}
 use Rattle.consensus.specs.declared.Power.the-variants.{Down, Up}
-use Rattle.mileage.specs.Calls.{Called, Refusing, logBytes}
-use Rattle.fields.specs.Fields.{readCall, writeCall, readLogCall, writeLogCall, readMessageCall, writeMessageCall}
-use Rattle.mileage.proofs.Encoded.{read-log, read-image}
-use Rattle.mileage.proofs.Rows.{start-refusing, key-on-refusing, propose-refusing, deliver-refusing}
-use Rattle.agreement.specs.Bytes.{ByteWorld, Lent, logOf, imageOf, other, Call, starts, keysOn, proposes, delivers, readsLog, readsMessage}
-use Rattle.agreement.specs.Bytes.{writesLog, writesMessage, lentBytes, bytesOr, imageLeft, Exit, runCall, ended, leave, leaveAll}
+use Rattle.calls.specs.Calls.{CallAnswer, Refusing, logBytes}
+use Rattle.calls.specs.Fields.{readCall, writeCall, readLogCall, writeLogCall, readMessageCall, writeMessageCall}
+use Rattle.calls.proofs.Encoded.{read-log, read-image}
+use Rattle.calls.proofs.Refusals.{start-refusing, key-on-refusing, propose-refusing, deliver-refusing}
+use Rattle.agreement.specs.Bytes.{ByteWorld, Lent, logOf, imageOf, other, Call, starts, keysOn, proposes, delivers, readsLog, readsMessage, writesLog}
+use Rattle.agreement.specs.Bytes.{writesMessage, lentBytes, bytesOr, imageLeft, Exit, runCall, ended, leave, leaveAll}
 use Rattle.agreement.specs.Contents.{ContentsWorld}
 use Rattle.agreement.specs.Encoded.{unitBytesAt, Encodes}
 use Rattle.agreement.proofs.Encoding.{Valid, encodes-same}
@@ -49,11 +49,11 @@ module _ {A : Type 0} (f : Format A) where
 
 module _ (l : Limits) (b : ByteWorld) where
   -- of the calls of a unit
-  unit-stays : (rows : List Row) (log image out : Lent) (c : Called) → Refusing l rows (lentBytes b log) (lentBytes b image) (lentBytes b out) c
+  unit-stays : (cs : List Condition) (log image out : Lent) (c : CallAnswer) → Refusing l cs (lentBytes b log) (lentBytes b image) (lentBytes b out) c
       → (c .number ≡ 0 → ⊥) → Each (Stays l b) (ended c log image out .exits)
-  unit-stays rows log image out c law n =
+  unit-stays cs log image out c law n =
       let same = law .refused n in
-      (inl (ap (λ (r : Called). r .log) same), (inl (ap (λ (r : Called). r .image) same), (inr (ap (λ (r : Called). r .out) same), tt)))
+      (inl (ap (λ (r : CallAnswer). r .log) same), (inl (ap (λ (r : CallAnswer). r .image) same), (inr (ap (λ (r : CallAnswer). r .out) same), tt)))
 
   call-stays : (c : Call) → (runCall l b c .number ≡ 0 → ⊥) → Each (Stays l b) (runCall l b c .exits)
   unfolding runCall readLogCall readMessageCall writeLogCall writeMessageCall
@@ -72,10 +72,10 @@ unfolding cleared
 cleared-other l bs n = rw (ne-eqb (length bs) (messageSize l) n)
 
 -- what is left in a unit's log or image is what it had
-abbrev Kept : Limits → ℕ → ContentsWorld → Lent → List ℕ → Type 0
-Kept l n w (logOf u) bs = u < n → bs ≡ logBytes l (unitLog (w .units u))
-Kept l n w (imageOf u) bs = u < n → w .units u .power ≡ Up → bs ≡ imageBytes l (unitImage (w .units u))
-Kept l n w (other cs) bs = Unit
+abbrev VotesStand : Limits → ℕ → ContentsWorld → Lent → List ℕ → Type 0
+VotesStand l n w (logOf u) bs = u < n → bs ≡ logBytes l (unitLog (w .units u))
+VotesStand l n w (imageOf u) bs = u < n → w .units u .power ≡ Up → bs ≡ imageBytes l (unitImage (w .units u))
+VotesStand l n w (other cs) bs = Unit
 
 module _ (l : Limits) (sane : Sane l) (n : ℕ) (w : ContentsWorld) (valid : Valid l n w) where
   module _ (b : ByteWorld) (enc : Encodes l n b w) where
@@ -90,7 +90,7 @@ module _ (l : Limits) (sane : Sane l) (n : ℕ) (w : ContentsWorld) (valid : Val
     has-image u h on = rw (enc .units u h, on)
 
     -- a log or an image is longer than a message
-    stays-kept : (lent : Lent) (bs : List ℕ) → (bs ≡ lentBytes b lent) ⊎ (bs ≡ cleared l (lentBytes b lent)) → Kept l n w lent bs
+    stays-kept : (lent : Lent) (bs : List ℕ) → (bs ≡ lentBytes b lent) ⊎ (bs ≡ cleared l (lentBytes b lent)) → VotesStand l n w lent bs
     stays-kept (logOf u) bs (inl e) = λ h. e ∙ has-log u h
     stays-kept (logOf u) bs (inr e) =
         λ h. e ∙ ap (cleared l) (has-log u h) ∙ cleared-other l _ (λ q. omega (arith, read-log l sane (unitLog (w .units u)) (valid .units u h .log) .1))
@@ -99,7 +99,7 @@ module _ (l : Limits) (sane : Sane l) (n : ℕ) (w : ContentsWorld) (valid : Val
         λ h on. e ∙ ap (cleared l) (has-image u h on) ∙ cleared-other l _ (λ q. omega (arith, read-image l sane (w .units u) (valid .units u h) .1))
     stays-kept (other cs) bs e = tt
 
-    encodes-leave : (lent : Lent) (bs : List ℕ) → Kept l n w lent bs → Encodes l n (leave b lent bs) w
+    encodes-leave : (lent : Lent) (bs : List ℕ) → VotesStand l n w lent bs → Encodes l n (leave b lent bs) w
     encodes-leave (logOf u) bs k = encodes-same l n b w enc u _ (λ h. rw (k h, enc .units u h) (go (w .units u .power)))
       where
         go : (p : Power) → record { log = logBytes l (unitLog (w .units u)); image = unitBytesAt l p (w .units u) .image } ≡ unitBytesAt l p (w .units u)
@@ -113,7 +113,7 @@ module _ (l : Limits) (sane : Sane l) (n : ℕ) (w : ContentsWorld) (valid : Val
         go Down k = refl
     encodes-leave (other cs) bs k = enc
 
-  encodes-all : (b : ByteWorld) → Encodes l n b w → (xs : List Exit) → Each (λ x. Kept l n w (x .lent) (x .bytes)) xs → Encodes l n (leaveAll b xs) w
+  encodes-all : (b : ByteWorld) → Encodes l n b w → (xs : List Exit) → Each (λ x. VotesStand l n w (x .lent) (x .bytes)) xs → Encodes l n (leaveAll b xs) w
   unfolding leaveAll
   encodes-all b enc [] k = enc
   encodes-all b enc (x ∷ xs) k = encodes-all (leave b (x .lent) (x .bytes)) (encodes-leave b enc (x .lent) (x .bytes) (k .0)) xs (k .1)

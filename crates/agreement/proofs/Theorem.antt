@@ -12,17 +12,17 @@ use Rattle.contents.specs.declared.Image.{Image}
 use Rattle.contents.specs.declared.Log.{Log}
 use Rattle.contents.specs.declared.Message.{Message}
 use Rattle.contents.specs.declared.State.{State}
-use Rattle.codec.specs.Codes.{letterOf}
-use Rattle.codec.specs.Formats.{Reading, reading}
-use Rattle.codec.specs.declared.EngineRead.the-variants.{Is}
-use Rattle.codec.specs.Images.{readImage, imageBytes}
-use Rattle.codec.specs.Logs.{readLog}
-use Rattle.codec.proofs.Letters.{engine-letter}
+use Rattle.formats.specs.Codes.{letterOf}
+use Rattle.formats.specs.Formats.{ReadAnswer, reading}
+use Rattle.formats.specs.declared.EngineRead.the-variants.{Is}
+use Rattle.formats.specs.Images.{readImage, imageBytes}
+use Rattle.formats.specs.Logs.{readLog}
+use Rattle.formats.proofs.Letters.{engine-letter}
 use Rattle.consensus.specs.Step.{fresh}
 use Rattle.consensus.specs.Units.{unitLog, unitImage, atLog}
 use Rattle.consensus.specs.declared.Power.{Power}
 use Rattle.consensus.specs.declared.Power.the-variants.{Down, Up}
-use Rattle.mileage.proofs.Encoded.{Started, start-accepted, read-log, read-image, read-message}
+use Rattle.calls.proofs.Encoded.{Started, start-accepted, read-log, read-image, read-message}
 use Rattle.agreement.specs.Bytes.{UnitBytes, ByteWorld, up, Event, startOf, begun, step, LawfulEvent, Lawful}
 use Rattle.agreement.specs.Contents as C
 use Rattle.agreement.specs.Demand3.{view, Demand3}
@@ -31,8 +31,7 @@ use Rattle.agreement.specs.Worlds.{Setup, settingsOf, Decision, run, Giv
 use Rattle.agreement.proofs.Encoding.{Valid, Follows}
 use Rattle.agreement.proofs.Follows.{step-follows}
 use Rattle.agreement.proofs.History.{Inv, Later, now, and-later, step-later, step-inv, begun-inv, well-formed-unit, from-unit, decided-given}
-use Rattle.agreement.proofs.History.{step-proposed}
-use Rattle.agreement.proofs.History.{run-append, run-snoc, locked-later, seconds-sent}
+use Rattle.agreement.proofs.History.{step-proposed, run-append, run-snoc, locked-later, seconds-sent}
 use Rattle.agreement.proofs.Invariant.{agreement}
 use Rattle.agreement.proofs.Refused.{has-log}
 use Rattle.agreement.proofs.Votes.{many-map}
@@ -128,10 +127,10 @@ module _ (l : Limits) (sane : Sane l) (c : Setup) where
 
       -- the states that a unit has as bytes are those of its contents
       log-state : (s : State) → view l .HasLog (b .units u) s → w .units u .logged ≡ s
-      log-state s r = ap (λ (x : Reading Log). x .contents .state) (sym reads-log) ∙ r .1
+      log-state s r = ap (λ (x : ReadAnswer Log). x .contents .state) (sym reads-log) ∙ r .1
 
       image-state : (s : State) → view l .HasImage (b .units u) s → w .units u .current ≡ s
-      image-state s r = ap (λ (x : Reading Image). x .contents .state) (sym (reads-image (r .0) (r .1 .0))) ∙ r .1 .1 .1
+      image-state s r = ap (λ (x : ReadAnswer Image). x .contents .state) (sym (reads-image (r .0) (r .1 .0))) ∙ r .1 .1 .1
 
     -- a message sent is kept as its bytes
     sent-copy : (m : Message) → List·Memᴰ m (w .sent) → List·Memᴰ (sentBytes l m) (b .sent)

@@ -10,7 +10,7 @@ use Rattle.tally.specs.declared.Estimate.{Estimate}
 use Rattle.tally.specs.declared.Estimate.the-variants.{Blank, Split, Mileage}
 use Rattle.tally.proofs.Count.{overlap}
 use Rattle.tally.proofs.Never.{never}
-use Rattle.tally.proofs.Quorums.{quorum-half}
+use Rattle.tally.proofs.Quorums.{quorums-overlap}
 use Rattle.contents.specs.declared.Kind.{Kind}
 use Rattle.contents.specs.declared.Kind.the-variants.{Empty, First, Check, Second, Skip}
 use Rattle.contents.specs.declared.Message.{Message}
@@ -43,7 +43,7 @@ holds-not v e h p = never (sym h ∙ rw p (eq-eqb v v refl))
 pub many-map : {n need : ℕ} {P Q : ℕ → Type 0} → ((u : ℕ) → P u → Q u) → Many n need P → Many n need Q
 many-map f a = record { who = a .who; many = a .many; each = λ u h. f u (a .each u h) }
 
--- two sets of units that have more than n members together share one
+-- two sets of units that have more than n members together share one; of two quorums it is `shared`
 pub meet : {n j k : ℕ} {P Q : ℕ → Type 0} → n < j + k → Many n j P → Many n k Q → (u : ℕ) × (P u × Q u)
 meet {n} h a b =
     let o = overlap n (a .who) (b .who) (omega (arith, a .many, b .many)) in
@@ -84,6 +84,12 @@ quorum c = quorumOf (c .engine) (c .n)
 abbrev pub Quorum : Setup → (Message → Type 0) → Kind → ℕ → Estimate → Type 0
 Quorum c X k r e = Many (c .n) (quorum c) (λ u. Vote X k u r e)
 
+-- two quorums share a unit
+pub shared : (c : Setup) {P Q : ℕ → Type 0} → Many (c .n) (quorum c) P → Many (c .n) (quorum c) Q → (u : ℕ) × (P u × Q u)
+shared c a b =
+    let o = quorums-overlap (c .engine) (c .n) (a .who) (b .who) (a .many) (b .many) in
+    (o .at, (a .each (o .at) (o .left), b .each (o .at) (o .right)))
+
 -- so many SECONDs of round r are not v that no quorum can be v
 abbrev pub Blocked : Setup → (Message → Type 0) → ℕ → ℕ → Type 0
 Blocked c X r v = Many (c .n) (c .n + 1 - quorum c) (Other X r v)
@@ -121,7 +127,7 @@ module _ (c : Setup) (X : Message → Type 0) (unique : Unique X) where
 
   -- two quorums of one kind and round are of one estimate
   pub one-quorum : (k : Kind) → isVote k ≡ true → (r : ℕ) (d e : Estimate) → Quorum c X k r d → Quorum c X k r e → d ≡ e
-  one-quorum k t r d e a b = let o = meet (quorum-half (c .engine) (c .n)) a b in one-vote k t (o .0) r d e (o .1 .0) (o .1 .1)
+  one-quorum k t r d e a b = let o = shared c a b in one-vote k t (o .0) r d e (o .1 .0) (o .1 .1)
 
   -- above the round of a quorum of SECONDs only its mileage is safe
   pub locked : (r v s : ℕ) (p : Estimate) → Quorum c X Second r (Mileage v) → r < s → Safe c X s p → p ≡ Mileage v

@@ -7,11 +7,11 @@ use mathlib.Core.Option.{Option, none, some}
 use lib.Dec.{eqb, ltb}
 use lib.ListN.{getElem?}
 use Rattle.tally.specs.Limits.{Limits}
-use Rattle.codec.specs.Codes.{letterOf, estimateOf}
-use Rattle.codec.specs.Formats.{Wrote}
-use Rattle.codec.specs.Messages.{readMessage}
-use Rattle.mileage.specs.Calls.{Called, startCall, keyOnCall, proposeCall, deliverCall}
-use Rattle.fields.specs.Fields.{readLogCall, writeLogCall, readMessageCall, writeMessageCall}
+use Rattle.formats.specs.Codes.{letterOf, estimateOf}
+use Rattle.formats.specs.Formats.{WriteAnswer}
+use Rattle.formats.specs.Messages.{readMessage}
+use Rattle.calls.specs.Calls.{CallAnswer, startCall, keyOnCall, proposeCall, deliverCall}
+use Rattle.calls.specs.Fields.{readLogCall, writeLogCall, readMessageCall, writeMessageCall}
 use Rattle.agreement.specs.Worlds.{Setup, World, change, keep, report, give, decision}
 
 -- a unit of a history: the bytes of its log and, while it is up, of its image
@@ -55,7 +55,7 @@ pub data Event : Type 0 where
   call : Call → Event
 
 -- starting unit u in the buffers given
-abbrev pub startOf : Limits → Setup → (ℕ → List ℕ) → (ℕ → List ℕ) → ℕ → Called
+abbrev pub startOf : Limits → Setup → (ℕ → List ℕ) → (ℕ → List ℕ) → ℕ → CallAnswer
 startOf l c logs images u = startCall l (letterOf (c .engine)) (c .n) u (c .entry) (logs u) (images u)
 
 -- at its start each unit has been started once, whatever its buffers held before; all are up and nothing is sent
@@ -74,21 +74,21 @@ unlessEmpty bs = cond (allZero bs) none (some bs)
 
 -- the log and image that the call leaves are the unit's from then on (after a refusal the bytes that it had); where it is accepted its
 -- message, unless empty, is kept next, and its decision, if any, is reported as one of round r
-unfoldable pub after : ByteWorld → ℕ → ℕ → Called → ByteWorld
+unfoldable pub after : ByteWorld → ℕ → ℕ → CallAnswer → ByteWorld
 after w u r c =
     let now = change w u (up (c .log) (c .image)) in
     cond (eqb (c .number) 0) (report (keep now (unlessEmpty (c .out))) (decision u r (estimateOf (c .decision)))) now
 
 -- an accepted proposal is recorded as well; it decides nothing, so that 0 stands for a round
-unfoldable pub afterProposal : ByteWorld → ℕ → ℕ → Called → ByteWorld
+unfoldable pub afterProposal : ByteWorld → ℕ → ℕ → CallAnswer → ByteWorld
 afterProposal w u v c = cond (eqb (c .number) 0) (give (after w u 0 c) (record { unit = u; mileage = v })) (after w u 0 c)
 
 -- accepted, the log it gives is the unit's from then on; image, message and decision are lost and the unit is down
-unfoldable pub afterCut : ByteWorld → ℕ → Called → ByteWorld
+unfoldable pub afterCut : ByteWorld → ℕ → CallAnswer → ByteWorld
 afterCut w u c = cond (eqb (c .number) 0) (change w u (down (c .log))) (change w u (up (c .log) (c .image)))
 
 -- accepted, the unit is up with that image
-unfoldable pub afterKeyOn : ByteWorld → ℕ → Called → ByteWorld
+unfoldable pub afterKeyOn : ByteWorld → ℕ → CallAnswer → ByteWorld
 afterKeyOn w u c = cond (eqb (c .number) 0) (change w u (up (c .log) (c .image))) (change w u (down (c .log)))
 
 -- a message's round; that of a decision is the round of the SECOND delivered (`Agreed.seconded`)
@@ -101,7 +101,7 @@ proposalOf l w u v out none = w
 proposalOf l w u v out (some image) = afterProposal w u v (proposeCall l (w .units u .log) image v out)
 
 -- a delivery and a cut of it are the same call, and f is what the event makes of the message and the answer
-unfoldable pub delivering : Limits → ByteWorld → ℕ → List ℕ → (List ℕ → Called → ByteWorld) → Option (List ℕ) → Option (List ℕ)
+unfoldable pub delivering : Limits → ByteWorld → ℕ → List ℕ → (List ℕ → CallAnswer → ByteWorld) → Option (List ℕ) → Option (List ℕ)
     → ByteWorld
 delivering l w u out f (some image) (some m) = f m (deliverCall l (w .units u .log) image m out)
 delivering l w u out f none m = w
@@ -131,17 +131,17 @@ pub record Exit : Type 0 where
 abbrev pub exit : Lent → List ℕ → Exit
 exit b bs = record { lent = b; bytes = bs }
 
-pub record Ended : Type 0 where
+pub record EndAnswer : Type 0 where
   pub number : ℕ
   pub exits : List Exit
 
-abbrev pub ended : Called → Lent → Lent → Lent → Ended
+abbrev pub ended : CallAnswer → Lent → Lent → Lent → EndAnswer
 ended c log image out = record { number = c .number; exits = exit log (c .log) ∷ exit image (c .image) ∷ exit out (c .out) ∷ [] }
 
-abbrev pub endedFields : Wrote → Lent → Ended
+abbrev pub endedFields : WriteAnswer → Lent → EndAnswer
 endedFields r out = record { number = r .number; exits = exit out (r .out) ∷ [] }
 
-unfoldable pub runCall : Limits → ByteWorld → Call → Ended
+unfoldable pub runCall : Limits → ByteWorld → Call → EndAnswer
 runCall l w (starts engine n unit entry log image) = ended (startCall l engine n unit entry (lentBytes w log) (lentBytes w image)) log image (other [])
 runCall l w (keysOn log image) = ended (keyOnCall l (lentBytes w log) (lentBytes w image)) log image (other [])
 runCall l w (proposes log image mileage out) = ended (proposeCall l (lentBytes w log) (lentBytes w image) mileage (lentBytes w out)) log image out

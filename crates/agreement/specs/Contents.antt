@@ -21,12 +21,12 @@ abbrev pub ContentsWorld : Type 0
 ContentsWorld = World U.Unit Message
 
 -- every event is of one unit
-pub data Event : Type 0 where
-  proposal : ℕ → ℕ → Event
-  delivery cut : ℕ → ℕ → Event
-  off on : ℕ → Event
+pub data ContentsEvent : Type 0 where
+  proposal : ℕ → ℕ → ContentsEvent
+  delivery cut : ℕ → ℕ → ContentsEvent
+  off on : ℕ → ContentsEvent
 
-abbrev pub eventUnit : Event → ℕ
+abbrev pub eventUnit : ContentsEvent → ℕ
 eventUnit (proposal u v) = u
 eventUnit (delivery u k) = u
 eventUnit (cut u k) = u
@@ -65,7 +65,7 @@ unfoldable pub delivering : Limits → ContentsWorld → ℕ → (Message → An
 delivering l w u f none = w
 delivering l w u f (some m) = f m (deliver l (w .units u) m)
 
-unfoldable pub apply : Limits → ContentsWorld → Event → ContentsWorld
+unfoldable pub apply : Limits → ContentsWorld → ContentsEvent → ContentsWorld
 apply l w (proposal u v) = afterProposal w u v (propose l (w .units u) v)
 apply l w (delivery u k) = delivering l w u (λ m a. after w u (m .round) a) (getElem? (w .sent) k)
 apply l w (cut u k) = delivering l w u (λ m a. afterCut w u a) (getElem? (w .sent) k)
@@ -73,7 +73,7 @@ apply l w (off u) = change w u (keyOff (w .units u) .unit)
 apply l w (on u) = change w u (keyOn (w .units u) .unit)
 
 -- units are numbered 0 to n − 1
-unfoldable pub step : Limits → ℕ → ContentsWorld → Event → ContentsWorld
+unfoldable pub step : Limits → ℕ → ContentsWorld → ContentsEvent → ContentsWorld
 step l n w e = cond (ltb (eventUnit e) n) (apply l w e) w
 
 abbrev pub view : View U.Unit Message
@@ -86,5 +86,5 @@ view =
     }
 
 -- demand 3 over contents
-abbrev pub AgreedContents : Limits → Setup → ContentsWorld → List Event → Type 0
+abbrev pub AgreedContents : Limits → Setup → ContentsWorld → List ContentsEvent → Type 0
 AgreedContents l c w es = Agreed c view (step l (c .n)) w es

@@ -4,10 +4,10 @@ use mathlib.Core.Path.{_≡_}
 use mathlib.Core.List.{List}
 use mathlib.Core.Option.{some}
 use Rattle.tally.specs.Limits.{Limits}
-use Rattle.codec.specs.Formats.{reading}
-use Rattle.codec.specs.Images.{readImage}
-use Rattle.codec.specs.Logs.{readLog}
-use Rattle.codec.specs.Messages.{readMessage}
+use Rattle.formats.specs.Formats.{reading}
+use Rattle.formats.specs.Images.{readImage}
+use Rattle.formats.specs.Logs.{readLog}
+use Rattle.formats.specs.Messages.{readMessage}
 use Rattle.agreement.specs.Bytes.{UnitBytes, Event, startOf, begun, step, Lawful}
 use Rattle.agreement.specs.Worlds.{Setup, View, Agreed}
 

@@ -4,14 +4,14 @@ use mathlib.Core.Path.{_≡_}
 use mathlib.Core.List.{List, map}
 use Rattle.tally.specs.Limits.{Limits}
 use Rattle.contents.specs.declared.Message.{Message}
-use Rattle.codec.specs.Formats.{toBytes}
-use Rattle.codec.specs.Images.{imageBytes}
-use Rattle.codec.specs.Messages.{messageFormat}
+use Rattle.formats.specs.Formats.{toBytes}
+use Rattle.formats.specs.Images.{imageBytes}
+use Rattle.formats.specs.Messages.{messageFormat}
 use Rattle.consensus.specs.Units.{unitLog, unitImage}
 use Rattle.consensus.specs.declared.Power.{Power}
 use Rattle.consensus.specs.declared.Power.the-variants.{Down, Up}
 use Rattle.consensus.specs.declared.Unit as U
-use Rattle.mileage.specs.Calls.{logBytes}
+use Rattle.calls.specs.Calls.{logBytes}
 use Rattle.agreement.specs.Bytes.{UnitBytes, ByteWorld, up, down}
 use Rattle.agreement.specs.Contents.{ContentsWorld}
 

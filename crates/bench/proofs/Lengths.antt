@@ -8,26 +8,26 @@ use lib.Dec.{leb, eqb}
 use lib.ListN.{length, drop, length-append, length-drop}
 use borrow.Author.Tests.{leb-true, leb-false}
 use Rattle.tally.specs.Limits.{Limits, scriptSize}
-use Rattle.codec.specs.Codes.{letterOf}
-use Rattle.bench_script.specs.Numbers.{maxDigits}
-use Rattle.bench_script.specs.Parts.{comma, newline, onto, parted}
-use Rattle.bench_script.specs.Script.{questionMark, eventLetter, inRanges, eventOf, unended, eventsOf}
-use Rattle.bench_script.specs.declared.Event.{Event}
-use Rattle.bench_script.specs.declared.Header.{Header}
-use Rattle.bench_script.proofs.EventLines.{short-line}
-use Rattle.bench_script.proofs.HeaderLines.{ranges}
-use Rattle.bench_script.proofs.Parting.{Some, parted-some}
+use Rattle.formats.specs.Codes.{letterOf}
+use Rattle.script.specs.Numbers.{maxDigits}
+use Rattle.script.specs.Parts.{comma, newline, onto, parted}
+use Rattle.script.specs.Script.{questionMark, eventLetter, inRanges, eventOf, unended, eventsOf}
+use Rattle.script.specs.declared.ScriptEvent.{ScriptEvent}
+use Rattle.script.specs.declared.Header.{Header}
+use Rattle.script.proofs.EventLines.{short-line}
+use Rattle.script.proofs.HeaderLines.{ranges}
+use Rattle.script.proofs.Parting.{Some, parted-some}
 use Rattle.bench_play.specs.Bench.{start}
 use Rattle.bench_play.specs.Play.{answer, play, benchAfter}
 use Rattle.bench_play.specs.declared.Bench.{Bench}
-use Rattle.bench_play.specs.declared.Reply.{Reply}
-use Rattle.bench_play.proofs.Rows.{reached-sized}
-use Rattle.bench_text.specs.Text.{decimal, shownText, fieldText, lineText, headerText, rowFields, rowText, endText}
-use Rattle.bench_text.specs.declared.Row.{Row}
+use Rattle.bench_play.specs.declared.LineAnswer.{LineAnswer}
+use Rattle.bench_play.proofs.PlayedLines.{reached-sized}
+use Rattle.bench_text.specs.Text.{decimal, shownText, fieldText, fieldsText, headerText, lineFields, lineText, endText}
+use Rattle.bench_text.specs.declared.ListingLine.{ListingLine}
 use Rattle.bench_text.specs.declared.Shown.{Shown}
 use Rattle.bench_text.proofs.Digits.{digits-most, digits-short}
-use Rattle.bench.specs.Listing.{rowOf, rowsText, headerLine, malformedRow, malformedText}
-use Rattle.bench.specs.Turns.{eventsFrom, restText}
+use Rattle.bench.specs.Listing.{lineOf, linesText, headerLine, malformedLine, malformedText}
+use Rattle.bench.specs.InnerTurns.{eventsFrom, restText}
 use Rattle.bench.specs.Widths.{indexWidth, keptWidth, headerWidth, malformedWidth, endWidth, maxListing}
 use Rattle.bench.proofs.Rest.{malformed-line}
 
@@ -50,7 +50,7 @@ parted-size c (b ∷ s) = go (eqb b c) (parted-some c s) (parted-size c s)
     go true r h = rw (r .same) (omega (arith, ap size (sym (r .same)) ∙ h))
     go false r h = ap (λ (ps : List (List ℕ)). size (onto b ps)) (r .same) ∙ onto-size (r .first) (r .others) ∙ ap suc (ap size (sym (r .same)) ∙ h)
 
--- ---- a row
+-- ---- a line of the listing
 
 shown-short : (s : Shown) → length (shownText s) ≤ maxDigits
 unfolding shownText decimal
@@ -72,7 +72,7 @@ lineLength [] = 1
 lineLength (s ∷ []) = length (shownText s) + 1
 lineLength (s ∷ t ∷ ss) = length (shownText s) + 1 + lineLength (t ∷ ss)
 
-line-text : (ss : List Shown) → length (lineText ss) ≡ lineLength ss
+line-text : (ss : List Shown) → length (fieldsText ss) ≡ lineLength ss
 line-text [] = refl
 line-text (s ∷ []) = field-length s newline
 line-text (s ∷ t ∷ ss) = rw length-append (omega (arith, field-length s comma, line-text (t ∷ ss)))
@@ -85,66 +85,66 @@ dash-length : length (shownText Shown.Dash) ≡ 1
 unfolding shownText
 dash-length = refl
 
-row-length : (r : Row) → length (rowText r) ≡ lineLength (rowFields r)
-unfolding rowText
-row-length r = line-text (rowFields r)
+shown-length : (r : ListingLine) → length (lineText r) ≡ lineLength (lineFields r)
+unfolding lineText
+shown-length r = line-text (lineFields r)
 
 module _ (i : ℕ) (small : i < 10 ^ indexWidth) where
-  row-malformed : length (rowText (malformedRow i)) ≤ malformedWidth
-  unfolding malformedRow
-  row-malformed =
+  malformed-shown : length (lineText (malformedLine i)) ≤ malformedWidth
+  unfolding malformedLine
+  malformed-shown =
       omega (
         arith,
-        row-length (malformedRow i),
+        shown-length (malformedLine i),
         number-most 4 i small,
         letter-length questionMark,
         number-most 0 8 (omega arith),
         dash-length,
       )
 
-  row-any : (e : Event) (r : Reply) → length (rowText (rowOf i e r)) ≤ 4 * malformedWidth
-  unfolding rowOf
-  row-any e r =
+  any-shown : (e : ScriptEvent) (r : LineAnswer) → length (lineText (lineOf i e r)) ≤ 4 * malformedWidth
+  unfolding lineOf
+  any-shown e r =
       omega (
         arith,
-        row-length (rowOf i e r),
+        shown-length (lineOf i e r),
         number-most 4 i small,
         letter-length (eventLetter e),
-        shown-short (rowOf i e r .unit),
-        shown-short (Shown.Number (rowOf i e r .number)),
-        shown-short (rowOf i e r .sent),
-        shown-short (rowOf i e r .decision),
+        shown-short (lineOf i e r .unit),
+        shown-short (Shown.Number (lineOf i e r .number)),
+        shown-short (lineOf i e r .sent),
+        shown-short (lineOf i e r .decision),
       )
 
--- ---- the rows of a script
+-- ---- the lines of a script
 
 module _ (l : Limits) (n : ℕ) where
   -- a line has no more than a malformed line's bytes for each of its own
   line-length : (b : Bench) (i : ℕ) (p : List ℕ) → i < 10 ^ indexWidth
-      → length (rowText (rowOf i (eventOf n p) (answer l b (eventOf n p)))) ≤ malformedWidth * suc (length p)
+      → length (lineText (lineOf i (eventOf n p) (answer l b (eventOf n p)))) ≤ malformedWidth * suc (length p)
   line-length b i p small = go (leb 3 (length p)) refl
     where
-      none : eventOf n p ≡ Event.Malformed → length (rowText (rowOf i (eventOf n p) (answer l b (eventOf n p)))) ≤ malformedWidth
-      none e = rw (e, malformed-line l b i) (row-malformed i small)
+      none : eventOf n p ≡ ScriptEvent.Malformed → length (lineText (lineOf i (eventOf n p) (answer l b (eventOf n p)))) ≤ malformedWidth
+      none e = rw (e, malformed-line l b i) (malformed-shown i small)
 
-      go : (t : Bool) → leb 3 (length p) ≡ t → length (rowText (rowOf i (eventOf n p) (answer l b (eventOf n p)))) ≤ malformedWidth * suc (length p)
-      go true h = omega (arith, leb-true 3 (length p) h, row-any i small (eventOf n p) (answer l b (eventOf n p)))
+      go : (t : Bool) → leb 3 (length p) ≡ t → length (lineText (lineOf i (eventOf n p) (answer l b (eventOf n p)))) ≤ malformedWidth * suc (length p)
+      go true h = omega (arith, leb-true 3 (length p) h, any-shown i small (eventOf n p) (answer l b (eventOf n p)))
       go false h = omega (arith, none (short-line n p (leb-false 3 (length p) h)))
 
-  left-length : (b : Bench) (i : ℕ) (p : List ℕ) → i < 10 ^ indexWidth → length (rowsText i (play l b (unended p))) ≤ malformedWidth * length p
-  unfolding rowsText play
+  left-length : (b : Bench) (i : ℕ) (p : List ℕ) → i < 10 ^ indexWidth → length (linesText i (play l b (unended p))) ≤ malformedWidth * length p
+  unfolding linesText play
   left-length b i [] small = omega arith
-  left-length b i (x ∷ p) small = rw (malformed-line l b i, length-append) (omega (arith, row-malformed i small))
+  left-length b i (x ∷ p) small = rw (malformed-line l b i, length-append) (omega (arith, malformed-shown i small))
 
-  rows-length : (b : Bench) (i : ℕ) (ps : List (List ℕ)) → i + size ps < 10 ^ indexWidth
-      → length (rowsText i (play l b (eventsOf n ps))) ≤ malformedWidth * size ps
-  unfolding rowsText play eventsOf
-  rows-length b i [] small = omega arith
-  rows-length b i (p ∷ []) small = left-length b i p (omega arith)
-  rows-length b i (p ∷ q ∷ ps) small =
+  lines-length : (b : Bench) (i : ℕ) (ps : List (List ℕ)) → i + size ps < 10 ^ indexWidth
+      → length (linesText i (play l b (eventsOf n ps))) ≤ malformedWidth * size ps
+  unfolding linesText play eventsOf
+  lines-length b i [] small = omega arith
+  lines-length b i (p ∷ []) small = left-length b i p (omega arith)
+  lines-length b i (p ∷ q ∷ ps) small =
       let e = eventOf n p in
       rw length-append
-      (omega (arith, line-length b i p (omega arith), rows-length (answer l b e .bench) (i + 1) (q ∷ ps) (omega arith)))
+      (omega (arith, line-length b i p (omega arith), lines-length (answer l b e .bench) (i + 1) (q ∷ ps) (omega arith)))
 
   left-count : (p : List ℕ) → length (unended p) ≤ length p
   left-count [] = omega arith
@@ -185,12 +185,12 @@ played-length l h s p ok short =
     let ps = parted newline (drop p s) in
     let whole : size ps ≡ length (drop p s) = parted-size newline (drop p s) in
     let least : size ps ≤ scriptSize = omega (arith, whole, length-drop p s) in
-    let rows = rows-length l (h .n) (start h) 1 ps (omega arith) in
+    let lines = lines-length l (h .n) (start h) 1 ps (omega arith) in
     let count = events-count l (h .n) ps in
     let kept = reached-sized h l (eventsOf (h .n) ps) .kept in
     let end = end-length (0 + length (eventsOf (h .n) ps)) (benchAfter l (start h) (eventsOf (h .n) ps) .kept) (omega (arith, count)) (omega (arith, kept)) in
-    simp length-append (omega (arith, header-length h ok, rows, end))
+    simp length-append (omega (arith, header-length h ok, lines, end))
 
 pub malformed-length : length malformedText ≤ maxListing
-unfolding malformedText malformedRow rowText endText fieldText shownText decimal
+unfolding malformedText malformedLine lineText endText fieldText shownText decimal
 malformed-length = leb-true _ _ refl

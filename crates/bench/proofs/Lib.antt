@@ -1,4 +1,4 @@
-pub mod Lines
+pub mod LineEnds
 pub mod Rest
 pub mod Lengths
 pub mod Whole

@@ -7,57 +7,58 @@ use native.Mathlib.Omega.{arith}
 use lib.ListN.{length, length-append}
 use lib.Seq.{sets}
 use Rattle.tally.specs.Limits.{Limits}
-use Rattle.bench_script.specs.declared.Event.{Event}
+use Rattle.script.specs.declared.ScriptEvent.{ScriptEvent}
 use Rattle.bench_play.specs.Play.{answer, play, benchAfter}
 use Rattle.bench_play.specs.declared.Bench.{Bench}
-use Rattle.bench_play.specs.declared.Reply.{Reply}
+use Rattle.bench_play.specs.declared.LineAnswer.{LineAnswer}
 use Rattle.bench_play.proofs.Settled.{answer-line}
-use Rattle.bench_text.specs.Text.{rowText, endText, Puts}
-use Rattle.bench_text.specs.declared.Row.{Row}
+use Rattle.bench_text.specs.Text.{lineText, endText}
+use Rattle.bench_text.specs.InnerText.{Puts}
+use Rattle.bench_text.specs.declared.ListingLine.{ListingLine}
 use Rattle.bench_text.proofs.Appending.{sets-append, room-first}
-use Rattle.bench.specs.Listing.{rowOf, rowsText, malformedRow}
-use Rattle.bench.specs.Turns.{eventsFrom, restText, LineAt, Turned}
-use Rattle.bench.specs.declared.turns.Line.{Line}
+use Rattle.bench.specs.Listing.{lineOf, linesText, malformedLine}
+use Rattle.bench.specs.InnerTurns.{eventsFrom, restText, LineAt, Turned}
+use Rattle.bench.specs.declared.turns.LineRead.{LineRead}
 use Rattle.bench.specs.declared.turns.Turn.{Turn}
-use Rattle.bench.proofs.Lines.{events-end}
+use Rattle.bench.proofs.LineEnds.{events-end}
 
--- the row of a malformed line
-pub malformed-line : (l : Limits) (b : Bench) (i : ℕ) → rowOf i Event.Malformed (answer l b Event.Malformed) ≡ malformedRow i
-unfolding rowOf malformedRow
+-- what a malformed line prints
+pub malformed-line : (l : Limits) (b : Bench) (i : ℕ) → lineOf i ScriptEvent.Malformed (answer l b ScriptEvent.Malformed) ≡ malformedLine i
+unfolding lineOf malformedLine
 malformed-line l b i = rw (answer-line l b)
 
--- a row, and then the rest
-pub rest-turn : (l : Limits) (b : Bench) (i : ℕ) (e : Event) (es : List Event)
-    → restText l b i (e ∷ es) ≡ rowText (rowOf (i + 1) e (answer l b e)) ++ restText l (answer l b e .bench) (i + 1) es
-unfolding restText rowsText play benchAfter
+-- a line of the listing, and then the rest
+pub rest-turn : (l : Limits) (b : Bench) (i : ℕ) (e : ScriptEvent) (es : List ScriptEvent)
+    → restText l b i (e ∷ es) ≡ lineText (lineOf (i + 1) e (answer l b e)) ++ restText l (answer l b e .bench) (i + 1) es
+unfolding restText linesText play benchAfter
 rest-turn l b i e es =
     let more : i + suc (length es) ≡ i + 1 + length es = omega arith in
     rw (more, append-assoc)
 
 -- at last the final line
 pub rest-end : (l : Limits) (b : Bench) (i : ℕ) → restText l b i [] ≡ endText i (b .kept)
-unfolding restText rowsText play benchAfter
+unfolding restText linesText play benchAfter
 rest-end l b i = rw add-zero
 
 module _ (l : Limits) (n : ℕ) (s : List ℕ) where
-  -- room for the rest is room for a row
-  pub turn-room : (b : Bench) (i p q : ℕ) (e : Event) (xs : List ℕ) (at : ℕ) → eventsFrom n s p ≡ e ∷ eventsFrom n s q
-      → at + length (restText l b i (eventsFrom n s p)) ≤ length xs → at + length (rowText (rowOf (i + 1) e (answer l b e))) ≤ length xs
+  -- room for the rest is room for a line
+  pub turn-room : (b : Bench) (i p q : ℕ) (e : ScriptEvent) (xs : List ℕ) (at : ℕ) → eventsFrom n s p ≡ e ∷ eventsFrom n s q
+      → at + length (restText l b i (eventsFrom n s p)) ≤ length xs → at + length (lineText (lineOf (i + 1) e (answer l b e))) ≤ length xs
   turn-room b i p q e xs at h room =
-      room-first at (rowText (rowOf (i + 1) e (answer l b e))) (restText l (answer l b e .bench) (i + 1) (eventsFrom n s q)) xs
+      room-first at (lineText (lineOf (i + 1) e (answer l b e))) (restText l (answer l b e .bench) (i + 1) (eventsFrom n s q)) xs
       (rw (h, rest-turn) at room)
 
-  pub turned : (b : Bench) (i p : ℕ) (line : Line) (reply : Reply) (row : Row) {xs ys : List ℕ} {at r : ℕ}
-      → LineAt n s p line → reply ≡ answer l b (line .event) → row ≡ rowOf (i + 1) (line .event) reply → Puts xs at (rowText row) ys r
-      → Turned l n s p b i xs at ys (record { bench = reply .bench; next = line .next; at = r })
-  turned b i p line reply row L a e w =
+  pub turned : (b : Bench) (i p : ℕ) (line : LineRead) (a : LineAnswer) (shown : ListingLine) {xs ys : List ℕ} {at r : ℕ}
+      → LineAt n s p line → a ≡ answer l b (line .event) → shown ≡ lineOf (i + 1) (line .event) a → Puts xs at (lineText shown) ys r
+      → Turned l n s p b i xs at ys (record { bench = a .bench; next = line .next; at = r })
+  turned b i p line a shown L same e w =
       record {
         event = line .event;
         events = L .events;
         later = L .later;
         within = L .within;
-        bench = ap (λ (x : Reply). x .bench) a;
-        wrote = rw (← a, ← e) w;
+        bench = ap (λ (x : LineAnswer). x .bench) same;
+        wrote = rw (← same, ← e) w;
       }
 
   -- what is left to print from here prints the whole
@@ -71,12 +72,12 @@ module _ (l : Limits) (n : ℕ) (s : List ℕ) where
   module _ {xs₀ xs : List ℕ} {b₀ b : Bench} {p₀ at₀ p at i : ℕ} (L : Left xs₀ b₀ p₀ at₀ xs b p at i) where
     pub left-step : {ys : List ℕ} {t : Turn} → Turned l n s p b i xs at ys t → Left xs₀ b₀ p₀ at₀ ys (t .bench) (t .next) (t .at) (i + 1)
     left-step {ys} {t} T =
-        let row = rowText (rowOf (i + 1) (T .event) (answer l b (T .event))) in
+        let shown = lineText (lineOf (i + 1) (T .event) (answer l b (T .event))) in
         let R = restText l (answer l b (T .event) .bench) (i + 1) (eventsFrom n s (t .next)) in
-        let f : restText l b i (eventsFrom n s p) ≡ row ++ R = rw (T .events) (rest-turn l b i (T .event) (eventsFrom n s (t .next))) in
+        let f : restText l b i (eventsFrom n s p) ≡ shown ++ R = rw (T .events) (rest-turn l b i (T .event) (eventsFrom n s (t .next))) in
         record {
-          same = rw (T .bench, T .wrote .bytes, T .wrote .ends, sets-append xs at row R, ← f) (L .same);
-          ends = rw (T .bench, T .wrote .ends) (omega (arith, ap length f, length-append row R, L .ends));
+          same = rw (T .bench, T .wrote .bytes, T .wrote .ends, sets-append xs at shown R, ← f) (L .same);
+          ends = rw (T .bench, T .wrote .ends) (omega (arith, ap length f, length-append shown R, L .ends));
         }
 
     pub left-room : (zs : List ℕ) → length xs ≡ length zs → at₀ + length (restText l b₀ 0 (eventsFrom n s p₀)) ≤ length zs

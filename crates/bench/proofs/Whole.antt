@@ -12,16 +12,17 @@ use borrow.Author.Tests.{leb-true, leb-false, le-leb, lt-leb, ltb-true, ltb-fals
 use Rattle.tally.specs.Limits.{Limits, scriptSize}
 use Rattle.tally.specs.Refusal.{numberOf}
 use Rattle.tally.specs.declared.Refusal.{Refusal}
-use Rattle.bench_script.specs.Parts.{newline, parted, before}
-use Rattle.bench_script.specs.Script.{headerOf, malformed, withHeader, fromLines, parse}
-use Rattle.bench_script.specs.declared.Header.{Header}
-use Rattle.bench_script.specs.declared.HeaderRead.{HeaderRead}
-use Rattle.bench_script.proofs.HeaderLines.{header-range}
-use Rattle.bench_script.proofs.Parting.{parted-there, parted-none, parted-some}
+use Rattle.script.specs.Parts.{newline, parted}
+use Rattle.script.specs.InnerParts.{before}
+use Rattle.script.specs.Script.{headerOf, malformed, withHeader, fromLines, parse}
+use Rattle.script.specs.declared.Header.{Header}
+use Rattle.script.specs.declared.HeaderRead.{HeaderRead}
+use Rattle.script.proofs.HeaderLines.{header-range}
+use Rattle.script.proofs.Parting.{parted-there, parted-none, parted-some}
 use Rattle.bench_play.specs.Bench.{start}
-use Rattle.bench_text.specs.Text.{Puts}
-use Rattle.bench.specs.Listing.{headerLine, playedText, malformedText, scriptText, listing, Printed, printed, over, listingCall}
-use Rattle.bench.specs.Turns.{eventsFrom, restText}
+use Rattle.bench_text.specs.InnerText.{Puts}
+use Rattle.bench.specs.Listing.{headerLine, playedText, malformedText, scriptText, listing, PrintAnswer, printed, over, listingCall}
+use Rattle.bench.specs.InnerTurns.{eventsFrom, restText}
 use Rattle.bench.specs.Widths.{maxListing}
 use Rattle.bench.proofs.Lengths.{played-length, malformed-length}
 
@@ -96,10 +97,10 @@ call-fits : (l : Limits) (s out : List ℕ) → listingCall l s out .written ≤
 unfolding listingCall
 call-fits l s out = go (ltb (length out) maxListing)
   where
-    short : Printed
+    short : PrintAnswer
     short = printed (numberOf Refusal.Length) 0 out
 
-    whole : Printed
+    whole : PrintAnswer
     whole = printed (numberOf Refusal.None) (length (listing l s)) (over (listing l s) out)
 
     go : (t : Bool) → cond t short whole .written ≤ length (cond t short whole .out)
@@ -108,10 +109,10 @@ call-fits l s out = go (ltb (length out) maxListing)
 
 pub printed-fits : (l : Limits) (s xs ys : List ℕ) (k n : ℕ) → printed k n ys ≡ listingCall l s xs → n ≤ length ys
 printed-fits l s xs ys k n e =
-    rw (ap (λ (r : Printed). r .written) e, ap (λ (r : Printed). r .out) e) (call-fits l s xs)
+    rw (ap (λ (r : PrintAnswer). r .written) e, ap (λ (r : PrintAnswer). r .out) e) (call-fits l s xs)
 
 -- with room for any listing it is accepted
 pub printed-accepted : (l : Limits) (s xs ys : List ℕ) (k n : ℕ) → maxListing ≤ length xs → printed k n ys ≡ listingCall l s xs
     → k ≡ numberOf Refusal.None
 unfolding listingCall
-printed-accepted l s xs ys k n room e = ap (λ (r : Printed). r .number) (rw (le-ltb (length xs) maxListing room) at e)
+printed-accepted l s xs ys k n room e = ap (λ (r : PrintAnswer). r .number) (rw (le-ltb (length xs) maxListing room) at e)

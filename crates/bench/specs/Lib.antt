@@ -1,3 +1,3 @@
 pub mod Listing
-pub mod Turns
+pub mod InnerTurns
 pub mod Widths

@@ -8,28 +8,28 @@ use Rattle.tally.specs.Limits.{Limits, scriptSize}
 use Rattle.tally.specs.Refusal.{numberOf}
 use Rattle.tally.specs.declared.Estimate.{Estimate}
 use Rattle.tally.specs.declared.Refusal.{Refusal}
-use Rattle.codec.specs.Codes.{letterOf}
-use Rattle.bench_script.specs.Script.{Script, malformed, script, parse, questionMark, eventLetter}
-use Rattle.bench_script.specs.declared.Event.{Event}
-use Rattle.bench_script.specs.declared.Header.{Header}
+use Rattle.formats.specs.Codes.{letterOf}
+use Rattle.script.specs.Script.{Script, malformed, script, parse, questionMark, eventLetter}
+use Rattle.script.specs.declared.ScriptEvent.{ScriptEvent}
+use Rattle.script.specs.declared.Header.{Header}
 use Rattle.bench_play.specs.Bench.{start}
 use Rattle.bench_play.specs.Play.{Played, play, benchAfter}
-use Rattle.bench_play.specs.declared.Reply.{Reply}
+use Rattle.bench_play.specs.declared.LineAnswer.{LineAnswer}
 use Rattle.bench_play.specs.declared.Sent.{Sent}
-use Rattle.bench_text.specs.Text.{headerText, rowText, endText}
-use Rattle.bench_text.specs.declared.Row.{Row}
+use Rattle.bench_text.specs.Text.{headerText, lineText, endText}
+use Rattle.bench_text.specs.declared.ListingLine.{ListingLine}
 use Rattle.bench_text.specs.declared.Shown.{Shown}
 use Rattle.bench.specs.Widths.{maxListing}
 
 -- ---- a line for each event line: index from 1, letter, unit, number, message number sent or -, decision or -
 
-abbrev pub unitShown : Event → Shown
-unitShown Event.Malformed = Shown.Dash
-unitShown (Event.Propose u v) = Shown.Number u
-unitShown (Event.Deliver u k) = Shown.Number u
-unitShown (Event.Cut u k) = Shown.Number u
-unitShown (Event.KeyOff u) = Shown.Number u
-unitShown (Event.KeyOn u) = Shown.Number u
+abbrev pub unitShown : ScriptEvent → Shown
+unitShown ScriptEvent.Malformed = Shown.Dash
+unitShown (ScriptEvent.Propose u v) = Shown.Number u
+unitShown (ScriptEvent.Deliver u k) = Shown.Number u
+unitShown (ScriptEvent.Cut u k) = Shown.Number u
+unitShown (ScriptEvent.KeyOff u) = Shown.Number u
+unitShown (ScriptEvent.KeyOn u) = Shown.Number u
 
 abbrev pub sentShown : Sent → Shown
 sentShown Sent.Nothing = Shown.Dash
@@ -40,8 +40,8 @@ decisionShown Estimate.Blank = Shown.Dash
 decisionShown Estimate.Split = Shown.Dash
 decisionShown (Estimate.Mileage v) = Shown.Number v
 
-unfoldable pub rowOf : ℕ → Event → Reply → Row
-rowOf i e r =
+unfoldable pub lineOf : ℕ → ScriptEvent → LineAnswer → ListingLine
+lineOf i e r =
     record {
       index = i;
       letter = eventLetter e;
@@ -52,9 +52,9 @@ rowOf i e r =
     }
 
 -- the lines of what was played, the first of them with index i
-unfoldable pub rowsText : ℕ → List Played → List ℕ
-rowsText i [] = []
-rowsText i (p ∷ ps) = rowText (rowOf i (p .event) (p .reply)) ++ rowsText (i + 1) ps
+unfoldable pub linesText : ℕ → List Played → List ℕ
+linesText i [] = []
+linesText i (p ∷ ps) = lineText (lineOf i (p .event) (p .answer)) ++ linesText (i + 1) ps
 
 -- ---- the listing
 
@@ -63,17 +63,17 @@ unfoldable pub headerLine : Header → List ℕ
 headerLine h = headerText (letterOf (h .engine)) (h .n) (h .entry)
 
 -- the final line has the event lines, malformed ones too, and the messages kept
-unfoldable pub playedText : Limits → Header → List Event → List ℕ
-playedText l h es = headerLine h ++ (rowsText 1 (play l (start h) es) ++ endText (length es) (benchAfter l (start h) es .kept))
+unfoldable pub playedText : Limits → Header → List ScriptEvent → List ℕ
+playedText l h es = headerLine h ++ (linesText 1 (play l (start h) es) ++ endText (length es) (benchAfter l (start h) es .kept))
 
 -- `index,?,-,8,-,-`: what a malformed line prints (`malformed-line`)
-unfoldable pub malformedRow : ℕ → Row
-malformedRow i =
+unfoldable pub malformedLine : ℕ → ListingLine
+malformedLine i =
     record { index = i; letter = questionMark; unit = Shown.Dash; number = numberOf Refusal.Line; sent = Shown.Dash; decision = Shown.Dash }
 
 -- a malformed header prints `0,?,-,8,-,-` and `end,0,0`
 unfoldable pub malformedText : List ℕ
-malformedText = rowText (malformedRow 0) ++ endText 0 0
+malformedText = lineText (malformedLine 0) ++ endText 0 0
 
 abbrev pub scriptText : Limits → Script → List ℕ
 scriptText l malformed = malformedText
@@ -85,18 +85,18 @@ listing l s = cond (leb (length s) scriptSize) (scriptText l (parse s)) malforme
 
 -- ---- the call: 1 and every byte as it was where the buffer is too short; else the listing's length, and its bytes before the buffer's own
 
-pub record Printed : Type 0 where
+pub record PrintAnswer : Type 0 where
   pub number : ℕ
   pub written : ℕ
   pub out : List ℕ
 
-abbrev pub printed : ℕ → ℕ → List ℕ → Printed
+abbrev pub printed : ℕ → ℕ → List ℕ → PrintAnswer
 printed k n out = record { number = k; written = n; out = out }
 
 abbrev pub over : List ℕ → List ℕ → List ℕ
 over text out = text ++ drop (length text) out
 
-unfoldable pub listingCall : Limits → List ℕ → List ℕ → Printed
+unfoldable pub listingCall : Limits → List ℕ → List ℕ → PrintAnswer
 listingCall l s out =
     cond (ltb (length out) maxListing) (printed (numberOf Refusal.Length) 0 out)
     (printed (numberOf Refusal.None) (length (listing l s)) (over (listing l s) out))

@@ -2,7 +2,7 @@
 use Prim.Native.Nat.{ℕ, _+_, _*_}
 use lib.ListN.{length}
 use Rattle.tally.specs.Limits.{maxUnits, maxEntry, places, scriptSize}
-use Rattle.bench_script.specs.Numbers.{maxDigits}
+use Rattle.script.specs.Numbers.{maxDigits}
 use Rattle.bench_text.specs.Text.{digits, endPrefix}
 
 -- the most digits of a number up to the one given

@@ -1,12 +1,11 @@
 // The bench program's work: from a script's bytes to its listing's.
-mod rows;
+mod lines;
 mod turns;
 
-use bench_script::Header;
-use bench_script::HeaderRead;
 use bench_script::headers;
 use bench_script::parts;
-use codec::codes;
+use script::Header;
+use script::HeaderRead;
 use tally::Refusal;
 use tally::limits;
 ghost use Prim.Native.Nat.{_≤_};
@@ -16,10 +15,10 @@ ghost use mathlib.Core.List.{_++_};
 ghost use lib.ListN.{length};
 ghost use Rattle.tally.specs.Limits.{today, scriptSize};
 ghost use Rattle.bench_play.specs.Bench.{start};
-ghost use Rattle.bench_script.specs.Script.{inRanges};
-ghost use Rattle.bench_text.specs.Text.{Puts};
+ghost use Rattle.script.specs.Script.{inRanges};
+ghost use Rattle.bench_text.specs.InnerText.{Puts};
 ghost use Rattle.bench.specs.Listing.{headerLine, malformedText, listing, printed, listingCall};
-ghost use Rattle.bench.specs.Turns.{eventsFrom, restText};
+ghost use Rattle.bench.specs.InnerTurns.{eventsFrom, restText};
 ghost use Rattle.bench.specs.Widths.{maxListing};
 
 // The most bytes of a header, a malformed line and the final line, as specs/Widths.antt adds them up.
@@ -43,7 +42,7 @@ fn put_malformed(out: &mut [u8]) -> usize
     requires { ⌜ maxListing ≤ length (now out) ⌝ }
     ensures { λ r. ⌜ Puts (now (out .entry)) 0 malformedText (now (out .exit)) r ⌝ }
 {
-    let p = bench_text::put_row(out, 0, rows::malformed_row());
+    let p = bench_text::put_line(out, 0, lines::malformed_line());
     bench_text::put_end(out, p, 0, 0)
 }
 

@@ -1,50 +1,50 @@
 // A script's event lines, one after the other.
-use super::rows;
+use super::lines;
 use bench_play::Bench;
-use bench_script::Event;
-use bench_script::Header;
 use bench_script::events;
 use bench_script::parts;
+use script::Header;
+use script::ScriptEvent;
 ghost use Prim.Native.Nat.{_+_, _≤_, _<_};
 ghost use lib.ListN.{length};
 ghost use Rattle.tally.specs.Limits.{today, scriptSize, senders, places};
 ghost use Rattle.bench_play.specs.Bench.{start};
-ghost use Rattle.bench_text.specs.Text.{Puts};
-ghost use Rattle.bench.specs.Turns.{eventsFrom, restText, LineAt, Turned};
+ghost use Rattle.bench_text.specs.InnerText.{Puts};
+ghost use Rattle.bench.specs.InnerTurns.{eventsFrom, restText, LineAt, Turned};
 
 // A line's event, and where the next line begins.
-pub struct Line {
-    pub event: Event,
+pub struct LineRead {
+    pub event: ScriptEvent,
     pub next: usize,
 }
 
 // The line at byte p. Bytes after the last byte 10 are a malformed one.
-fn line_at(n: u8, script: &[u8], p: usize) -> Line
+fn line_at(n: u8, script: &[u8], p: usize) -> LineRead
     requires { ⌜ p < length (now script) ⌝ }
     ensures { λ r. ⌜ LineAt n (now (script .entry)) p r ⌝ }
 {
     let rest = &script[p..];
     let k = parts::before(rest, parts::NEWLINE);
     if k < rest.len() {
-        return Line {
+        return LineRead {
             event: events::event(n, &rest[..k]),
             next: p + k + 1,
         };
     }
-    Line {
-        event: Event::Malformed,
+    LineRead {
+        event: ScriptEvent::Malformed,
         next: p + k,
     }
 }
 
-// The bench after a line, where the next line begins, and where its row ended.
+// The bench after a line, where the next line begins, and where its line of the listing ended.
 pub struct Turn {
     pub bench: Bench,
     pub next: usize,
     pub at: usize,
 }
 
-// Plays the line at byte p, and puts its row.
+// Plays the line at byte p, and puts its line of the listing.
 fn take_turn(script: &[u8], p: usize, n: u8, b: Bench, i: u32, out: &mut [u8], at: usize) -> Turn
     requires { ⌜ p < length (now script) ⌝ }
     requires { ⌜ 0 < n ⌝ }
@@ -56,9 +56,9 @@ fn take_turn(script: &[u8], p: usize, n: u8, b: Bench, i: u32, out: &mut [u8], a
 {
     let line = line_at(n, script, p);
     let event = line.event;
-    let reply = b.answer(event);
-    let end = bench_text::put_row(out, at, rows::row(i + 1, event, reply));
-    let next = reply.bench;
+    let answer = b.answer(event);
+    let end = bench_text::put_line(out, at, lines::listing_line(i + 1, event, answer));
+    let next = answer.bench;
     Turn {
         bench: next,
         next: line.next,
@@ -66,7 +66,7 @@ fn take_turn(script: &[u8], p: usize, n: u8, b: Bench, i: u32, out: &mut [u8], a
     }
 }
 
-// The rows of all lines from byte `from` on, and the final line.
+// The listing of all lines from byte `from` on, and the final line.
 pub(crate) fn put_events(
     script: &[u8],
     from: usize,

@@ -12,7 +12,8 @@ fn play_named(k: usize) {
         os::fail(&path[..n]);
         return;
     }
-    bench_stream::play(fd, 1);
+    let mut out = bench::page();
+    bench_stream::play(fd, 1, &mut out);
     libc::close(fd);
 }
 

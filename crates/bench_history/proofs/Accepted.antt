@@ -19,8 +19,8 @@ use Rattle.agreement.specs.Contents.{ContentsWorld, unlessEmpty, after, afterCu
 use Rattle.agreement.specs.Contents as C
 use Rattle.agreement.specs.Worlds.{Proposal, Decision, put, change, decision, run}
 use Rattle.agreement.proofs.History.{added, after-is}
-use Rattle.bench_script.specs.Script.{eventUnit}
-use Rattle.bench_script.specs.declared.Event.{Event}
+use Rattle.script.specs.Script.{eventUnit}
+use Rattle.script.specs.declared.ScriptEvent.{ScriptEvent}
 use Rattle.bench_play.specs.Bench.{unitAt, messageAt}
 use Rattle.bench_play.specs.Claims.{Sized}
 use Rattle.bench_play.specs.Play.{Played, delivery, cutShort, unitAnswer}
@@ -63,7 +63,7 @@ module _ (w : ContentsWorld) (u : ℕ) where
   went-quiet : (x : U.Unit) → Went w (change w u x) [] u (quiet x)
   went-quiet x = record { units = refl; sent = refl; proposed = sym (append-nil _); decided = sym (append-nil _) }
 
-module _ (l : Limits) (n : ℕ) (b : Bench) (sized : Sized b) (rows : List Played) (w : ContentsWorld) (shows : Shows n b rows w) where
+module _ (l : Limits) (n : ℕ) (b : Bench) (sized : Sized b) (lines : List Played) (w : ContentsWorld) (shows : Shows n b lines w) where
   pub sent-at : (k : ℕ) → k < b .kept → getElem? (w .sent) k ≡ some (messageAt b k)
   unfolding messageAt
   sent-at k h = rw (shows .sent) (at-taken (b .messages) (b .kept) k _ h (omega (arith, sized .messages, sized .kept)))
@@ -101,13 +101,13 @@ module _ (l : Limits) (n : ℕ) (b : Bench) (sized : Sized b) (rows : List Playe
     went-on zero = rw (shows .units u below, on-accepted (unitAt b u) zero .1) (went-quiet w u _)
 
   -- the event runs as the bench's unit answers
-  pub went : (e : Event) → eventUnit e < n → Accepts (unitAnswer l b e)
+  pub went : (e : ScriptEvent) → eventUnit e < n → Accepts (unitAnswer l b e)
       → Went w (run (step l n) w (contentsEvent e)) (proposalOf e) (eventUnit e) (unitAnswer l b e)
   unfolding unitAnswer run step apply
-  went Event.Malformed below zero = absurd (omega (arith, zero))
-  went (Event.Propose u v) below zero =
+  went ScriptEvent.Malformed below zero = absurd (omega (arith, zero))
+  went (ScriptEvent.Propose u v) below zero =
       rw (lt-ltb u n below, shows .units u below) (went-proposal w u v (propose l (unitAt b u) v) zero)
-  went (Event.Deliver u k) below zero = rw (lt-ltb u n below) (went-delivery u below k zero)
-  went (Event.Cut u k) below zero = rw (lt-ltb u n below) (went-cut u below k zero)
-  went (Event.KeyOff u) below zero = rw (lt-ltb u n below) (went-off u below zero)
-  went (Event.KeyOn u) below zero = rw (lt-ltb u n below) (went-on u below zero)
+  went (ScriptEvent.Deliver u k) below zero = rw (lt-ltb u n below) (went-delivery u below k zero)
+  went (ScriptEvent.Cut u k) below zero = rw (lt-ltb u n below) (went-cut u below k zero)
+  went (ScriptEvent.KeyOff u) below zero = rw (lt-ltb u n below) (went-off u below zero)
+  went (ScriptEvent.KeyOn u) below zero = rw (lt-ltb u n below) (went-on u below zero)

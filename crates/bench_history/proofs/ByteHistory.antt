@@ -12,16 +12,16 @@ use Rattle.tally.specs.Limits.{Limits, Sane, senders, logSize, imageSize, messa
 use Rattle.tally.specs.Refusal.{numberOf}
 use Rattle.contents.specs.Messages.{messageOk}
 use Rattle.contents.specs.declared.Message.{Message}
-use Rattle.codec.specs.Formats.{Reading}
-use Rattle.codec.specs.Images.{imageBytes}
-use Rattle.codec.specs.Messages.{emptyBytes}
-use Rattle.codec.proofs.Letters.{engine-letter}
+use Rattle.formats.specs.Formats.{ReadAnswer}
+use Rattle.formats.specs.Images.{imageBytes}
+use Rattle.formats.specs.Messages.{emptyBytes}
+use Rattle.formats.proofs.Letters.{engine-letter}
 use Rattle.consensus.specs.Methods.{propose, deliver}
-use Rattle.consensus.specs.Rows.{firstOf}
+use Rattle.consensus.specs.Conditions.{firstOf}
 use Rattle.consensus.specs.Units.{unitLog, unitImage}
 use Rattle.consensus.specs.declared.Power.the-variants.{Down, Up}
-use Rattle.mileage.specs.Calls.{answered, unitLengths, badSettings, logBytes, startCallRows, startCall, deliverCall}
-use Rattle.mileage.proofs.Encoded.{read-message, propose-encoded, deliver-encoded}
+use Rattle.calls.specs.Calls.{answered, unitLengths, badSettings, logBytes, startCallConditions, startCall, deliverCall}
+use Rattle.calls.proofs.Encoded.{read-message, propose-encoded, deliver-encoded}
 use Rattle.agreement.specs.Bytes as B
 use Rattle.agreement.specs.Contents as C
 use Rattle.agreement.specs.Demand3.{view}
@@ -32,9 +32,9 @@ use Rattle.agreement.proofs.Follows.{sent-at, sent-in}
 use Rattle.agreement.proofs.History.{Inv, run-append, run-inv, begun-inv}
 use Rattle.agreement.proofs.Refused.{has-log}
 use Rattle.agreement.proofs.Theorem.{valid, encodes-begun, demand-3}
-use Rattle.bench_script.specs.Script.{eventUnit, inRanges}
-use Rattle.bench_script.specs.declared.Event.{Event}
-use Rattle.bench_script.specs.declared.Header.{Header}
+use Rattle.script.specs.Script.{eventUnit, inRanges}
+use Rattle.script.specs.declared.ScriptEvent.{ScriptEvent}
+use Rattle.script.specs.declared.Header.{Header}
 use Rattle.bench_play.specs.Bench.{start, unitAt, messageAt}
 use Rattle.bench_play.specs.Play.{Played, delivery, answer, play, unitAnswer}
 use Rattle.bench_play.specs.declared.Bench.{Bench}
@@ -43,8 +43,8 @@ use Rattle.bench_history.specs.History.{setupOf, Below, isAccepted, ofAc
 use Rattle.bench_history.specs.History.{contentsAfter, startLog, startImage, startBytes, bytesAfter}
 use Rattle.bench_play.proofs.Accepting.{Accepts, proposal-up, delivered, cut-accepted, on-accepted, accepts}
 use Rattle.bench_history.proofs.Accepted.{sent-at as bench-sent}
-use Rattle.bench_play.proofs.Rows.{row, sized-answer, start-sized}
-use Rattle.bench_history.proofs.Simulation.{line, units-high, settings-ok, start-shows}
+use Rattle.bench_play.proofs.PlayedLines.{played, sized-answer, start-sized}
+use Rattle.bench_history.proofs.Simulation.{line-shows, units-high, settings-ok, start-shows}
 
 -- ---- one event
 
@@ -53,7 +53,7 @@ out-size l = length-replicate (messageSize l) 0
 
 module _ (l : Limits) (sane : Sane l) (n : ℕ) (c : B.ByteWorld) (w : C.ContentsWorld) (enc : Encodes l n c w) (ok : Valid l n w)
     (u : ℕ) (below : u < n) where
-  abbrev Follows : B.Event → C.Event → Type 0
+  abbrev Follows : B.Event → C.ContentsEvent → Type 0
   Follows x e = Encodes l n (B.step l n c x) (C.step l n w e)
 
   pub up-image : w .units u .power ≡ Up → c .units u .image ≡ some (imageBytes l (unitImage (w .units u)))
@@ -83,7 +83,7 @@ module _ (l : Limits) (sane : Sane l) (n : ℕ) (c : B.ByteWorld) (w : C.Content
     kept-bytes = rw (enc .sent, sent-at l (w .sent) k, there)
 
     kept-round : B.roundOf l (sentBytes l m) ≡ m .round
-    kept-round = ap (λ (r : Reading Message). r .contents .round) (read-message l sane m kept-ok .0)
+    kept-round = ap (λ (r : ReadAnswer Message). r .contents .round) (read-message l sane m kept-ok .0)
 
     module _ (on : w .units u .power ≡ Up) where
       pub called : deliverCall l (logBytes l (unitLog (w .units u))) (imageBytes l (unitImage (w .units u))) (sentBytes l m) (emptyBytes l)
@@ -114,33 +114,33 @@ module _ (l : Limits) (sane : Sane l) (n : ℕ) (c : B.ByteWorld) (w : C.Content
 
 -- ---- one line
 
-module _ (l : Limits) (sane : Sane l) (n : ℕ) (b : Bench) (sized : Sized b) (rows : List Played) (w : C.ContentsWorld) (shows : Shows n b rows w)
+module _ (l : Limits) (sane : Sane l) (n : ℕ) (b : Bench) (sized : Sized b) (lines : List Played) (w : C.ContentsWorld) (shows : Shows n b lines w)
     (c : B.ByteWorld) (enc : Encodes l n c w) (ok : Valid l n w) where
-  byte-event : (e : Event) → eventUnit e < n → Accepts (unitAnswer l b e)
+  byte-event : (e : ScriptEvent) → eventUnit e < n → Accepts (unitAnswer l b e)
       → Encodes l n (run (B.step l n) c (byteEvent l e)) (run (C.step l n) w (contentsEvent e))
   unfolding run unitAnswer
-  byte-event Event.Malformed below number = absurd (omega (arith, number))
-  byte-event (Event.Propose u v) below number =
+  byte-event ScriptEvent.Malformed below number = absurd (omega (arith, number))
+  byte-event (ScriptEvent.Propose u v) below number =
       let same = shows .units u below in
       byte-proposal l sane n c w enc ok u below v (rw same (proposal-up l (unitAt b u) v number)) (rw same number)
-  byte-event (Event.Deliver u k) below number =
+  byte-event (ScriptEvent.Deliver u k) below number =
       let same = shows .units u below in
       let d = delivered l b u k number in
-      byte-delivery l sane n c w enc ok u below k (messageAt b k) (bench-sent l n b sized rows w shows k (d .sent)) (rw same (d .up))
+      byte-delivery l sane n c w enc ok u below k (messageAt b k) (bench-sent l n b sized lines w shows k (d .sent)) (rw same (d .up))
       (rw (same, ← d .same) number)
-  byte-event (Event.Cut u k) below number =
+  byte-event (ScriptEvent.Cut u k) below number =
       let same = shows .units u below in
       let a = cut-accepted (delivery l b u k) number .0 in
       let d = delivered l b u k a in
-      byte-cut l sane n c w enc ok u below k (messageAt b k) (bench-sent l n b sized rows w shows k (d .sent)) (rw same (d .up))
+      byte-cut l sane n c w enc ok u below k (messageAt b k) (bench-sent l n b sized lines w shows k (d .sent)) (rw same (d .up))
       (rw (same, ← d .same) a)
-  byte-event (Event.KeyOff u) below number = byte-off l sane n c w enc ok u below
-  byte-event (Event.KeyOn u) below number =
+  byte-event (ScriptEvent.KeyOff u) below number = byte-off l sane n c w enc ok u below
+  byte-event (ScriptEvent.KeyOn u) below number =
       byte-on l sane n c w enc ok u below (rw (shows .units u below) (on-accepted (unitAt b u) number .0))
 
-  byte-line : (e : Event) → eventUnit e < n
-      → Encodes l n (run (B.step l n) c (ofAccepted (byteEvent l) (row e (answer l b e))))
-      (run (C.step l n) w (ofAccepted contentsEvent (row e (answer l b e))))
+  byte-line : (e : ScriptEvent) → eventUnit e < n
+      → Encodes l n (run (B.step l n) c (ofAccepted (byteEvent l) (played e (answer l b e))))
+      (run (C.step l n) w (ofAccepted contentsEvent (played e (answer l b e))))
   unfolding run
   byte-line e below = go (eqb (numberOf (answer l b e .refusal)) 0) refl
     where
@@ -152,41 +152,42 @@ module _ (l : Limits) (sane : Sane l) (n : ℕ) (b : Bench) (sized : Sized b) (r
 -- ---- all lines
 
 module _ (l : Limits) (sane : Sane l) (s : Setup) (high : s .n ≤ senders) where
-  byte-lines : (es : List Event) → Below (s .n) es → (b : Bench) → Sized b → (rows : List Played) (w : C.ContentsWorld) → Shows (s .n) b rows w
+  byte-lines : (es : List ScriptEvent) → Below (s .n) es → (b : Bench) → Sized b → (lines : List Played) (w : C.ContentsWorld) → Shows (s .n) b lines w
       → Inv l s w → (c : B.ByteWorld) → Encodes l (s .n) c w
       → Encodes l (s .n) (run (B.step l (s .n)) c (byteHistory l b es)) (run (C.step l (s .n)) w (history l b es))
   unfolding play history byteHistory run flatMap
-  byte-lines [] below b sized rows w shows inv c enc = enc
-  byte-lines (e ∷ es) below b sized rows w shows inv c enc =
-      let p = row e (answer l b e) in
+  byte-lines [] below b sized lines w shows inv c enc = enc
+  byte-lines (e ∷ es) below b sized lines w shows inv c enc =
+      let p = played e (answer l b e) in
       rw (
         run-append (B.step l (s .n)) c (ofAccepted (byteEvent l) p) (byteHistory l (answer l b e .bench) es),
         run-append (C.step l (s .n)) w (ofAccepted contentsEvent p) (history l (answer l b e .bench) es),
       )
-      (byte-lines es (below .1) (answer l b e .bench) (sized-answer l b sized e) (rows ++ (p ∷ [])) _ (line l (s .n) high b sized rows w shows e (below .0))
-      (run-inv l s w (ofAccepted contentsEvent p) inv) _ (byte-line l sane (s .n) b sized rows w shows c enc (valid l sane s w inv) e (below .0)))
+      (byte-lines es (below .1) (answer l b e .bench) (sized-answer l b sized e) (lines ++ (p ∷ [])) _
+      (line-shows l (s .n) high b sized lines w shows e (below .0))
+      (run-inv l s w (ofAccepted contentsEvent p) inv) _ (byte-line l sane (s .n) b sized lines w shows c enc (valid l sane s w inv) e (below .0)))
 
 -- ---- the script
 
 -- no event of these is a call with other buffers
-lawful : (l : Limits) (n : ℕ) (rows : List Played) (c : B.ByteWorld) → B.Lawful l n c (flatMap (ofAccepted (byteEvent l)) rows)
+lawful : (l : Limits) (n : ℕ) (lines : List Played) (c : B.ByteWorld) → B.Lawful l n c (flatMap (ofAccepted (byteEvent l)) lines)
 unfolding flatMap
 lawful l n [] c = tt
-lawful l n (p ∷ rows) c = go (isAccepted (p .reply)) (p .event) (lawful l n rows)
+lawful l n (p ∷ lines) c = go (isAccepted (p .answer)) (p .event) (lawful l n lines)
   where
-    go : (t : Bool) (e : Event) → ((c : B.ByteWorld) → B.Lawful l n c (flatMap (ofAccepted (byteEvent l)) rows))
-        → B.Lawful l n c (cond t (byteEvent l e) [] ++ flatMap (ofAccepted (byteEvent l)) rows)
-    go true Event.Malformed later = later c
-    go true (Event.Propose u v) later = (tt, later _)
-    go true (Event.Deliver u k) later = (tt, later _)
-    go true (Event.Cut u k) later = (tt, later _)
-    go true (Event.KeyOff u) later = (tt, later _)
-    go true (Event.KeyOn u) later = (tt, later _)
+    go : (t : Bool) (e : ScriptEvent) → ((c : B.ByteWorld) → B.Lawful l n c (flatMap (ofAccepted (byteEvent l)) lines))
+        → B.Lawful l n c (cond t (byteEvent l e) [] ++ flatMap (ofAccepted (byteEvent l)) lines)
+    go true ScriptEvent.Malformed later = later c
+    go true (ScriptEvent.Propose u v) later = (tt, later _)
+    go true (ScriptEvent.Deliver u k) later = (tt, later _)
+    go true (ScriptEvent.Cut u k) later = (tt, later _)
+    go true (ScriptEvent.KeyOff u) later = (tt, later _)
+    go true (ScriptEvent.KeyOn u) later = (tt, later _)
     go false e later = later c
 
 module _ (l : Limits) (sane : Sane l) (h : Header) (range : inRanges (h .n) (h .entry) ≡ true) where
   pub started : (u : ℕ) → u < h .n → B.startOf l (setupOf h) (startLog l) (startImage l) u .number ≡ 0
-  unfolding startCall startCallRows firstOf unitLengths badSettings
+  unfolding startCall startCallConditions firstOf unitLengths badSettings
   started u below =
       rw (
         eq-eqb (length (zeros (logSize l))) (logSize l) (length-replicate (logSize l) 0),
@@ -195,7 +196,7 @@ module _ (l : Limits) (sane : Sane l) (h : Header) (range : inRanges (h .n) (h .
         settings-ok h range u below,
       )
 
-  module _ (es : List Event) (below : Below (h .n) es) where
+  module _ (es : List ScriptEvent) (below : Below (h .n) es) where
     pub byte-lawful : B.Lawful l (h .n) (startBytes l h) (byteHistory l (start h) es)
     unfolding byteHistory
     byte-lawful = lawful l (h .n) (play l (start h) es) (startBytes l h)

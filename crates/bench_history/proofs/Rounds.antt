@@ -14,9 +14,9 @@ use Rattle.tally.proofs.Never.{never}
 use Rattle.contents.specs.Messages.{messageOk}
 use Rattle.contents.specs.declared.Kind.{Kind}
 use Rattle.contents.specs.declared.Message.{Message}
-use Rattle.consensus.specs.Methods.{closesLast, proposeRows, propose, deliverRows, deliver, keyOff, keyOn}
-use Rattle.consensus.specs.Step.{emptyMessage, says, logWrite, atRound, fresh, recovered, sendFirst, proposed, takeFirst, takeSecond, close, onKind}
-use Rattle.consensus.specs.Step.{skip, received}
+use Rattle.consensus.specs.Methods.{closesLast, proposeConditions, propose, deliverConditions, deliver, keyOff, keyOn}
+use Rattle.consensus.specs.Step.{emptyMessage, says, logWrite, atRound, fresh, recovered, sendFirst, proposed, takeFirst, takeSecond, close, onKind, skip}
+use Rattle.consensus.specs.Step.{received}
 use Rattle.consensus.specs.Units.{atLog, downUnit}
 use Rattle.consensus.specs.declared.Answer.{Answer}
 use Rattle.consensus.specs.declared.Unit as U
@@ -25,13 +25,13 @@ use Rattle.consensus.proofs.Refusals.{closes-next}
 use Rattle.agreement.specs.Contents.{begun}
 use Rattle.agreement.proofs.Follows.{sent-in}
 use Rattle.agreement.proofs.History.{from-unit}
-use Rattle.bench_script.specs.Script.{eventUnit, inRanges}
-use Rattle.bench_script.specs.declared.Event.{Event}
-use Rattle.bench_script.specs.declared.Header.{Header}
+use Rattle.script.specs.Script.{eventUnit, inRanges}
+use Rattle.script.specs.declared.ScriptEvent.{ScriptEvent}
+use Rattle.script.specs.declared.Header.{Header}
 use Rattle.bench_play.specs.Bench.{start, noUnit, unitAt, messageAt, withUnit, withMessage}
 use Rattle.bench_play.specs.Play.{Played, delivery, answer, play, benchAfter, unitAnswer}
 use Rattle.bench_play.specs.declared.Bench.{Bench}
-use Rattle.bench_play.specs.declared.Reply.{Reply}
+use Rattle.bench_play.specs.declared.LineAnswer.{LineAnswer}
 use Rattle.bench_play.specs.Claims.{Sized}
 use Rattle.bench_history.specs.History.{setupOf, Below, contentsAfter}
 use Rattle.bench_history.specs.Covered.{met}
@@ -39,7 +39,7 @@ use Rattle.bench_play.proofs.Accepting.{Accepts, delivered, cut-accepted, off-a
 use Rattle.bench_history.proofs.Accepted.{sent-at}
 use Rattle.bench_history.proofs.Lists.{at-in}
 use Rattle.bench_play.proofs.Numbers.{of-unit}
-use Rattle.bench_play.proofs.Rows.{unit-set, sized-answer, start-sized, reached-sized, row-line}
+use Rattle.bench_play.proofs.PlayedLines.{unit-set, sized-answer, start-sized, reached-sized, line-played}
 use Rattle.bench_history.proofs.Lines.{below-parts}
 use Rattle.bench_play.proofs.Settled.{by-answer}
 use Rattle.bench_history.proofs.Simulation.{units-high, start-shows, simulated, after-inv}
@@ -77,11 +77,11 @@ module _ (k : ℕ) where
 
   low-deliver : (l : Limits) (x : U.Unit) (m : Message) → Low k x → m .round < k → LowAnswer k (deliver l x m)
   unfolding deliver
-  low-deliver l x m low h = by-unless (LowAnswer k) (deliverRows l x m) x (received x m) (low-received x m low h) (λ r. (low, omega arith))
+  low-deliver l x m low h = by-unless (LowAnswer k) (deliverConditions l x m) x (received x m) (low-received x m low h) (λ r. (low, omega arith))
 
   low-propose : (l : Limits) (x : U.Unit) (v : ℕ) → Low k x → LowAnswer k (propose l x v)
   unfolding propose proposed sendFirst says
-  low-propose l x v low = by-unless (LowAnswer k) (proposeRows l x v) x (proposed x v) (low, low .0) (λ r. (low, omega arith))
+  low-propose l x v low = by-unless (LowAnswer k) (proposeConditions l x v) x (proposed x v) (low, low .0) (λ r. (low, omega arith))
 
   -- an accepted key-off or key-on leaves the log's round
   low-off : (x : U.Unit) → Accepts (keyOff x) → x .logged .round ≤ k → LowAnswer k (keyOff x)
@@ -105,21 +105,21 @@ module _ (l : Limits) (n : ℕ) (high : n ≤ senders) (b : Bench) (sized : Size
       let d = delivered l b u k ok in
       rw (d .same) (low-deliver (b .kept) l (unitAt b u) (messageAt b k) (slow .units u below) (omega (arith, slow .messages k (d .sent))))
 
-  low-event : (e : Event) → eventUnit e < n → Accepts (unitAnswer l b e) → LowAnswer (b .kept) (unitAnswer l b e)
+  low-event : (e : ScriptEvent) → eventUnit e < n → Accepts (unitAnswer l b e) → LowAnswer (b .kept) (unitAnswer l b e)
   unfolding unitAnswer
-  low-event Event.Malformed below ok = absurd (omega (arith, ok))
-  low-event (Event.Propose u v) below ok = low-propose (b .kept) l (unitAt b u) v (slow .units u below)
-  low-event (Event.Deliver u k) below ok = low-delivery u k below ok
-  low-event (Event.Cut u k) below ok =
+  low-event ScriptEvent.Malformed below ok = absurd (omega (arith, ok))
+  low-event (ScriptEvent.Propose u v) below ok = low-propose (b .kept) l (unitAt b u) v (slow .units u below)
+  low-event (ScriptEvent.Deliver u k) below ok = low-delivery u k below ok
+  low-event (ScriptEvent.Cut u k) below ok =
       let c = cut-accepted (delivery l b u k) ok in
       rw (c .1) (low-off (b .kept) (delivery l b u k .unit) (rw (c .1) at ok) (low-delivery u k below (c .0) .0 .1))
-  low-event (Event.KeyOff u) below ok = low-off (b .kept) (unitAt b u) ok (slow .units u below .1)
-  low-event (Event.KeyOn u) below ok = low-on (b .kept) (unitAt b u) ok (slow .units u below .1)
+  low-event (ScriptEvent.KeyOff u) below ok = low-off (b .kept) (unitAt b u) ok (slow .units u below .1)
+  low-event (ScriptEvent.KeyOn u) below ok = low-on (b .kept) (unitAt b u) ok (slow .units u below .1)
 
-  slow-answer : (e : Event) → eventUnit e < n → Slow n (answer l b e .bench)
+  slow-answer : (e : ScriptEvent) → eventUnit e < n → Slow n (answer l b e .bench)
   unfolding withUnit withMessage unitAt messageAt
   slow-answer e below =
-      by-answer (λ (r : Reply). Slow n (r .bench)) l b e
+      by-answer (λ (r : LineAnswer). Slow n (r .bench)) l b e
       (record {
         refuses = λ some. slow;
         quiet = λ ok empty. record { units = units ok (b .kept) (omega arith); messages = slow .messages };
@@ -149,7 +149,7 @@ module _ (l : Limits) (n : ℕ) (high : n ≤ senders) (b : Bench) (sized : Size
               let apart = eqb-false k (b .kept) q in
               rw (getD-set-other (b .messages) (b .kept) k (a .message) emptyMessage apart) (slow .messages k (omega arith))
 
-slow-after : (l : Limits) (n : ℕ) → n ≤ senders → (es : List Event) → Below n es → (b : Bench) → Sized b → Slow n b
+slow-after : (l : Limits) (n : ℕ) → n ≤ senders → (es : List ScriptEvent) → Below n es → (b : Bench) → Sized b → Slow n b
     → Slow n (benchAfter l b es)
 unfolding benchAfter
 slow-after l n high [] below b sized slow = slow
@@ -166,7 +166,7 @@ module _ (l : Limits) (h : Header) (range : inRanges (h .n) (h .entry) ≡ true)
 
   module _ (bound : places ≤ l .lastRound) where
     -- on the bench after es, number 7 and number 4 are not met
-    module _ (es : List Event) (below : Below (h .n) es) where
+    module _ (es : List ScriptEvent) (below : Below (h .n) es) where
       abbrev b : Bench
       b = benchAfter l (start h) es
 
@@ -188,9 +188,9 @@ module _ (l : Limits) (h : Header) (range : inRanges (h .n) (h .entry) ≡ true)
           let there = sent-at l (h .n) b (reached-sized h l es) _ w (simulated h range l es below) k sent in
           from-unit l (setupOf h) w (after-inv h range l es below) (messageAt b k) (sent-in (w .sent) k (messageAt b k) there) .well-formed
 
-      answer-met : (e : Event) → eventUnit e < h .n → List·Memᴰ (numberOf (answer l b e .refusal)) met
+      answer-met : (e : ScriptEvent) → eventUnit e < h .n → List·Memᴰ (numberOf (answer l b e .refusal)) met
       answer-met e at =
-          by-answer (λ (r : Reply). List·Memᴰ (numberOf (r .refusal)) met) l b e
+          by-answer (λ (r : LineAnswer). List·Memᴰ (numberOf (r .refusal)) met) l b e
           (record {
             refuses = λ some. own;
             quiet = λ ok empty. is 0 (omega arith);
@@ -216,9 +216,9 @@ module _ (l : Limits) (h : Header) (range : inRanges (h .n) (h .entry) ≡ true)
               })
 
     -- 1 to 4 and 7 are never met
-    pub numbers-met : (es : List Event) → Below (h .n) es → (p : Played) → List·Memᴰ p (play l (start h) es)
-        → List·Memᴰ (numberOf (p .reply .refusal)) met
+    pub numbers-met : (es : List ScriptEvent) → Below (h .n) es → (p : Played) → List·Memᴰ p (play l (start h) es)
+        → List·Memᴰ (numberOf (p .answer .refusal)) met
     numbers-met es below p there =
-        let r = row-line l (start h) es p there in
+        let r = line-played l (start h) es p there in
         let parts = below-parts (h .n) (r .before) (p .event) (r .after) (subst (Below (h .n)) (r .split) below) in
-        rw (r .reply) (answer-met (r .before) (parts .0) (p .event) (parts .1))
+        rw (r .answer) (answer-met (r .before) (parts .0) (p .event) (parts .1))

@@ -8,13 +8,13 @@ use lib.Dec.{leb}
 use lib.ListN.{length}
 use Rattle.tally.specs.Limits.{Limits, Sane, today, scriptSize}
 use Rattle.tally.proofs.Bounds.{sane-today}
-use Rattle.bench_script.specs.Parts.{newline, parted}
-use Rattle.bench_script.specs.Script.{inRanges, headerOf, eventsOf, Script, malformed, script, withHeader, fromLines, parse}
-use Rattle.bench_script.specs.declared.Event.{Event}
-use Rattle.bench_script.specs.declared.Header.{Header}
-use Rattle.bench_script.specs.declared.HeaderRead.{HeaderRead}
-use Rattle.bench_script.proofs.EventLines.{event-unit}
-use Rattle.bench_script.proofs.HeaderLines.{header-range}
+use Rattle.script.specs.Parts.{newline, parted}
+use Rattle.script.specs.Script.{inRanges, headerOf, eventsOf, Script, malformed, script, withHeader, fromLines, parse}
+use Rattle.script.specs.declared.ScriptEvent.{ScriptEvent}
+use Rattle.script.specs.declared.Header.{Header}
+use Rattle.script.specs.declared.HeaderRead.{HeaderRead}
+use Rattle.script.proofs.EventLines.{event-unit}
+use Rattle.script.proofs.HeaderLines.{header-range}
 use Rattle.bench.specs.Listing.{playedText, malformedText, scriptText, listing}
 use Rattle.bench.proofs.Whole.{listing-long}
 use Rattle.bench_history.specs.Covered.{Covered}
@@ -55,7 +55,7 @@ script-in s = lines (parted newline s)
     lines (l ∷ p ∷ ps) = read l (headerOf l) refl (p ∷ ps)
 
 -- every script that is read is covered
-pub covered-script : (l : Limits) → Sane l → (s : List ℕ) (h : Header) (es : List Event) → parse s ≡ script h es → Covered l h es
+pub covered-script : (l : Limits) → Sane l → (s : List ℕ) (h : Header) (es : List ScriptEvent) → parse s ≡ script h es → Covered l h es
 covered-script l sane s h es e =
     let i : ScriptIn (script h es) = subst ScriptIn e (script-in s) in
     covered l sane h (i .0) es (i .1)

@@ -22,22 +22,22 @@ use Rattle.consensus.proofs.Parts.{and-both}
 use Rattle.agreement.specs.Contents.{ContentsWorld, begun, unlessEmpty, step}
 use Rattle.agreement.specs.Worlds.{run, settingsOf}
 use Rattle.agreement.proofs.History.{Inv, added, run-append, run-inv, begun-inv}
-use Rattle.bench_script.specs.Script.{eventUnit, inRanges}
-use Rattle.bench_script.specs.declared.Event.{Event}
-use Rattle.bench_script.specs.declared.Header.{Header}
-use Rattle.bench_script.proofs.HeaderLines.{ranges}
+use Rattle.script.specs.Script.{eventUnit, inRanges}
+use Rattle.script.specs.declared.ScriptEvent.{ScriptEvent}
+use Rattle.script.specs.declared.Header.{Header}
+use Rattle.script.proofs.HeaderLines.{ranges}
 use Rattle.bench_play.specs.Bench as P
 use Rattle.bench_play.specs.Bench.{freshUnits, start, noUnit, unitAt, refused, accepted, withUnit, withMessage}
 use Rattle.bench_play.specs.Play.{Played, answer, play, benchAfter, unitAnswer}
 use Rattle.bench_play.specs.declared.Bench.{Bench}
-use Rattle.bench_play.specs.declared.Reply.{Reply}
+use Rattle.bench_play.specs.declared.LineAnswer.{LineAnswer}
 use Rattle.bench_play.specs.declared.Sent.{Sent}
-use Rattle.bench_history.specs.History.{setupOf, Below, ofAccepted, contentsEvent, history, proposalOf, proposals, decidedOf, decisions}
+use Rattle.bench_history.specs.History.{setupOf, Below, ofAccepted, contentsEvent, history, proposalOf, proposals, decidedOf, decisions, Shows}
+use Rattle.bench_history.specs.History.{contentsAfter}
 use Rattle.bench_play.specs.Claims.{Sized}
-use Rattle.bench_history.specs.History.{Shows, contentsAfter}
 use Rattle.bench_history.proofs.Accepted.{Went, went}
 use Rattle.bench_history.proofs.Lists.{flat-snoc}
-use Rattle.bench_play.proofs.Rows.{row, unit-set, sized-answer, fresh-length, start-sized}
+use Rattle.bench_play.proofs.PlayedLines.{played, unit-set, sized-answer, fresh-length, start-sized}
 use Rattle.bench_play.proofs.Settled.{by-answer}
 
 -- ---- one line
@@ -51,13 +51,13 @@ added-some ms Second m h = refl
 added-some ms Skip m h = refl
 
 -- the world after a line answered r is that bench
-abbrev After : Limits → ℕ → List Played → ContentsWorld → Event → Reply → Type 0
-After l n rows w e r = Shows n (r .bench) (rows ++ (row e r ∷ [])) (run (step l n) w (ofAccepted contentsEvent (row e r)))
+abbrev After : Limits → ℕ → List Played → ContentsWorld → ScriptEvent → LineAnswer → Type 0
+After l n lines w e r = Shows n (r .bench) (lines ++ (played e r ∷ [])) (run (step l n) w (ofAccepted contentsEvent (played e r)))
 
-module _ (l : Limits) (n : ℕ) (high : n ≤ senders) (b : Bench) (sized : Sized b) (rows : List Played) (w : ContentsWorld) (shows : Shows n b rows w)
-    (e : Event) (below : eventUnit e < n) where
+module _ (l : Limits) (n : ℕ) (high : n ≤ senders) (b : Bench) (sized : Sized b) (lines : List Played) (w : ContentsWorld) (shows : Shows n b lines w)
+    (e : ScriptEvent) (below : eventUnit e < n) where
   -- a refused line leaves all as it was
-  after-refused : (k : Refusal) → (numberOf k ≡ 0 → ⊥) → After l n rows w e (refused b k)
+  after-refused : (k : Refusal) → (numberOf k ≡ 0 → ⊥) → After l n lines w e (refused b k)
   unfolding run proposals decisions
   after-refused k some =
       let no = ne-eqb (numberOf k) 0 some in
@@ -65,15 +65,15 @@ module _ (l : Limits) (n : ℕ) (high : n ≤ senders) (b : Bench) (sized : Size
       (record {
         units = shows .units;
         sent = shows .sent;
-        proposed = shows .proposed ∙ sym (flat-snoc _ rows (row e (refused b k)) ∙ rw no (append-nil _));
-        decided = shows .decided ∙ sym (flat-snoc _ rows (row e (refused b k)) ∙ append-nil _);
+        proposed = shows .proposed ∙ sym (flat-snoc _ lines (played e (refused b k)) ∙ rw no (append-nil _));
+        decided = shows .decided ∙ sym (flat-snoc _ lines (played e (refused b k)) ∙ append-nil _);
       })
 
   module _ (a : Answer) (gone : Went w (run (step l n) w (contentsEvent e)) (proposalOf e) (eventUnit e) a) where
     -- an accepted line: the unit is its answer's, and the messages are those sent
     after-accepted : (b′ : Bench) (s : Sent) → b′ .units ≡ set (b .units) (eventUnit e) (a .unit)
         → added (w .sent) (unlessEmpty (a .message .kind) (a .message)) ≡ take (b′ .kept) (b′ .messages)
-        → After l n rows w e (accepted b′ s (a .decision))
+        → After l n lines w e (accepted b′ s (a .decision))
     unfolding unitAt proposals decisions
     after-accepted b′ s units sent =
         record {
@@ -82,14 +82,14 @@ module _ (l : Limits) (n : ℕ) (high : n ≤ senders) (b : Bench) (sized : Size
               ∙ sym (unit-set b (eventUnit e) (a .unit) v (omega (arith, sized .units)))
               ∙ ap (λ us. getD us v noUnit) (sym units);
           sent = gone .sent ∙ sent;
-          proposed = gone .proposed ∙ ap (λ ps. ps ++ proposalOf e) (shows .proposed) ∙ sym (flat-snoc _ rows _);
-          decided = gone .decided ∙ ap (λ ds. ds ++ decidedOf (eventUnit e) (a .decision)) (shows .decided) ∙ sym (flat-snoc _ rows _);
+          proposed = gone .proposed ∙ ap (λ ps. ps ++ proposalOf e) (shows .proposed) ∙ sym (flat-snoc _ lines _);
+          decided = gone .decided ∙ ap (λ ds. ds ++ decidedOf (eventUnit e) (a .decision)) (shows .decided) ∙ sym (flat-snoc _ lines _);
         }
 
-  pub line : After l n rows w e (answer l b e)
+  pub line-shows : After l n lines w e (answer l b e)
   unfolding withUnit withMessage
-  line =
-      by-answer (After l n rows w e) l b e
+  line-shows =
+      by-answer (After l n lines w e) l b e
       (record {
         refuses = λ some. after-refused (unitAnswer l b e .refusal) some;
         full = λ ok some full. after-refused Refusal.Full (λ z. absurd (omega arith));
@@ -104,13 +104,13 @@ module _ (l : Limits) (n : ℕ) (high : n ≤ senders) (b : Bench) (sized : Size
       u = eventUnit e
 
       gone : numberOf (a .refusal) ≡ 0 → Went w (run (step l n) w (contentsEvent e)) (proposalOf e) u a
-      gone ok = went l n b sized rows w shows e below ok
+      gone ok = went l n b sized lines w shows e below ok
 
-      quiet : numberOf (a .refusal) ≡ 0 → a .message .kind ≡ Empty → After l n rows w e (accepted (withUnit b u (a .unit)) Sent.Nothing (a .decision))
+      quiet : numberOf (a .refusal) ≡ 0 → a .message .kind ≡ Empty → After l n lines w e (accepted (withUnit b u (a .unit)) Sent.Nothing (a .decision))
       quiet ok empty = after-accepted a (gone ok) (withUnit b u (a .unit)) Sent.Nothing refl (rw empty (shows .sent))
 
       sends : numberOf (a .refusal) ≡ 0 → (a .message .kind ≡ Empty → ⊥) → b .kept < places
-          → After l n rows w e (accepted (withMessage (withUnit b u (a .unit)) (a .message)) (Sent.At (b .kept)) (a .decision))
+          → After l n lines w e (accepted (withMessage (withUnit b u (a .unit)) (a .message)) (Sent.At (b .kept)) (a .decision))
       sends ok some room =
           after-accepted a (gone ok) (withMessage (withUnit b u (a .unit)) (a .message)) (Sent.At (b .kept)) refl
           (added-some (w .sent) (a .message .kind) (a .message) some ∙ ap (λ ms. ms ++ (a .message ∷ [])) (shows .sent)
@@ -119,14 +119,14 @@ module _ (l : Limits) (n : ℕ) (high : n ≤ senders) (b : Bench) (sized : Size
 -- ---- all lines
 
 module _ (l : Limits) (n : ℕ) (high : n ≤ senders) where
-  lines : (es : List Event) → Below n es → (b : Bench) → Sized b → (rows : List Played) (w : ContentsWorld) → Shows n b rows w
-      → Shows n (benchAfter l b es) (rows ++ play l b es) (run (step l n) w (history l b es))
+  lines-show : (es : List ScriptEvent) → Below n es → (b : Bench) → Sized b → (lines : List Played) (w : ContentsWorld) → Shows n b lines w
+      → Shows n (benchAfter l b es) (lines ++ play l b es) (run (step l n) w (history l b es))
   unfolding benchAfter play history run flatMap
-  lines [] below b sized rows w shows = rw (append-nil rows) shows
-  lines (e ∷ es) below b sized rows w shows =
+  lines-show [] below b sized lines w shows = rw (append-nil lines) shows
+  lines-show (e ∷ es) below b sized lines w shows =
       rw run-append (rw append-snoc at
-      (lines es (below .1) (answer l b e .bench) (sized-answer l b sized e) (rows ++ (row e (answer l b e) ∷ [])) _
-      (line l n high b sized rows w shows e (below .0))))
+      (lines-show es (below .1) (answer l b e .bench) (sized-answer l b sized e) (lines ++ (played e (answer l b e) ∷ [])) _
+      (line-shows l n high b sized lines w shows e (below .0))))
 
 -- ---- at the start
 
@@ -161,10 +161,10 @@ module _ (h : Header) (range : inRanges (h .n) (h .entry) ≡ true) where
 
   -- ---- the script
 
-  module _ (l : Limits) (es : List Event) (below : Below (h .n) es) where
+  module _ (l : Limits) (es : List ScriptEvent) (below : Below (h .n) es) where
     pub simulated : Shows (h .n) (benchAfter l (start h) es) (play l (start h) es) (contentsAfter l h es)
     unfolding contentsAfter
-    simulated = lines l (h .n) units-high es below (start h) (start-sized h) [] (begun (setupOf h)) start-shows
+    simulated = lines-show l (h .n) units-high es below (start h) (start-sized h) [] (begun (setupOf h)) start-shows
 
     pub after-inv : Inv l (setupOf h) (contentsAfter l h es)
     unfolding contentsAfter

@@ -5,9 +5,9 @@ use mathlib.Core.List.{List}
 use native.Mathlib.Omega.{arith}
 use lib.ListN.{length}
 use Rattle.tally.specs.Limits.{Limits, Sane}
-use Rattle.bench_script.specs.Script.{inRanges}
-use Rattle.bench_script.specs.declared.Event.{Event}
-use Rattle.bench_script.specs.declared.Header.{Header}
+use Rattle.script.specs.Script.{inRanges}
+use Rattle.script.specs.declared.ScriptEvent.{ScriptEvent}
+use Rattle.script.specs.declared.Header.{Header}
 use Rattle.bench_play.specs.Bench.{start}
 use Rattle.bench_play.specs.Play.{play, benchAfter}
 use Rattle.bench_play.specs.Claims.{sentNumbers}
@@ -18,15 +18,15 @@ use Rattle.bench_history.proofs.Decisions.{decisions-same, decision-pro
 use Rattle.bench_play.proofs.Numbers.{full-only, full-met}
 use Rattle.bench_history.proofs.OwnCalls.{calls}
 use Rattle.bench_history.proofs.Rounds.{numbers-met}
-use Rattle.bench_play.proofs.Rows.{reached-sized, refused-stays, as-many, Numbered, numbered}
+use Rattle.bench_play.proofs.PlayedLines.{reached-sized, refused-stays, as-many, Numbered, numbered}
 use Rattle.bench_history.proofs.Simulation.{simulated}
 
 -- from the start, where nothing is kept
-numbered-start : (l : Limits) (h : Header) (es : List Event) → Numbered 0 (benchAfter l (start h) es) (play l (start h) es)
+numbered-start : (l : Limits) (h : Header) (es : List ScriptEvent) → Numbered 0 (benchAfter l (start h) es) (play l (start h) es)
 unfolding start
 numbered-start l h es = numbered l (start h) es
 
-pub covered : (l : Limits) → Sane l → (h : Header) → inRanges (h .n) (h .entry) ≡ true → (es : List Event) → Below (h .n) es → Covered l h es
+pub covered : (l : Limits) → Sane l → (h : Header) → inRanges (h .n) (h .entry) ≡ true → (es : List ScriptEvent) → Below (h .n) es → Covered l h es
 covered l sane h range es below =
     let n = numbered-start l h es in
     let kept : benchAfter l (start h) es .kept ≡ length (sentNumbers (play l (start h) es)) = omega (arith, n .kept) in

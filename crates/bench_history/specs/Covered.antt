@@ -11,8 +11,8 @@ use Rattle.agreement.specs.Bytes as B
 use Rattle.agreement.specs.Demand3.{view}
 use Rattle.agreement.specs.Encoded.{Encodes}
 use Rattle.agreement.specs.Worlds.{Agreed}
-use Rattle.bench_script.specs.declared.Event.{Event}
-use Rattle.bench_script.specs.declared.Header.{Header}
+use Rattle.script.specs.declared.ScriptEvent.{ScriptEvent}
+use Rattle.script.specs.declared.Header.{Header}
 use Rattle.bench_play.specs.Bench.{start}
 use Rattle.bench_play.specs.Claims.{Sized, Unchanged, WouldSend, NoPlace, rising, sentNumbers}
 use Rattle.bench_play.specs.Play.{Played, answer, play, benchAfter}
@@ -20,23 +20,23 @@ use Rattle.bench_play.specs.declared.Bench.{Bench}
 use Rattle.bench_history.specs.Calls.{OwnCall}
 use Rattle.bench_history.specs.History.{setupOf, byteHistory, Shows, contentsAfter, startLog, startImage, startBytes, bytesAfter}
 
-abbrev pub after : Limits → Header → List Event → Bench
+abbrev pub after : Limits → Header → List ScriptEvent → Bench
 after l h es = benchAfter l (start h) es
 
-abbrev pub rows : Limits → Header → List Event → List Played
-rows l h es = play l (start h) es
+abbrev pub playedLines : Limits → Header → List ScriptEvent → List Played
+playedLines l h es = play l (start h) es
 
 -- a fact of each line, given the lines before it
-abbrev pub EachLine : List Event → (List Event → Event → Type 0) → Type 0
-EachLine es P = (before later : List Event) (e : Event) → es ≡ before ++ (e ∷ later) → P before e
+abbrev pub EachLine : List ScriptEvent → (List ScriptEvent → ScriptEvent → Type 0) → Type 0
+EachLine es P = (before later : List ScriptEvent) (e : ScriptEvent) → es ≡ before ++ (e ∷ later) → P before e
 
--- an accepted row in which a unit proposes v
-pub record ProposedIn (v : ℕ) (rows : List Played) : Type 0 where
-  pub row : Played
-  pub there : List·Memᴰ row rows
+-- an accepted line in which a unit proposes v
+pub record ProposedIn (v : ℕ) (lines : List Played) : Type 0 where
+  pub line : Played
+  pub there : List·Memᴰ line lines
   pub by : ℕ
-  pub event : row .event ≡ Event.Propose by v
-  pub accepted : numberOf (row .reply .refusal) ≡ 0
+  pub event : line .event ≡ ScriptEvent.Propose by v
+  pub accepted : numberOf (line .answer .refusal) ≡ 0
 
 -- the numbers that a script meets: 1 to 4 and 7 are not among them
 abbrev pub met : List ℕ
@@ -45,10 +45,10 @@ met =
     (Refusal.None ∷ Refusal.Addressee ∷ Refusal.Mileage ∷ Refusal.Line ∷ Refusal.Power ∷ Refusal.Unsent ∷ Refusal.Full ∷ [])
 
 -- of the header h and the events es
-pub record Covered (l : Limits) (h : Header) (es : List Event) : Type 0 where
+pub record Covered (l : Limits) (h : Header) (es : List ScriptEvent) : Type 0 where
   pub sized : Sized (after l h es)
   -- the accepted lines are a history over contents, whose units, messages, proposals and decisions are the bench's
-  pub contents : Shows (h .n) (after l h es) (rows l h es) (contentsAfter l h es)
+  pub contents : Shows (h .n) (after l h es) (playedLines l h es) (contentsAfter l h es)
   -- and one over bytes, from units that are started, whose bytes are those of these contents
   pub started : (u : ℕ) → u < h .n → B.startOf l (setupOf h) (startLog l) (startImage l) u .number ≡ 0
   pub bytes : Encodes l (h .n) (bytesAfter l h es) (contentsAfter l h es)
@@ -59,13 +59,13 @@ pub record Covered (l : Limits) (h : Header) (es : List Event) : Type 0 where
   -- so that demand 3 holds of it
   pub agreed : Agreed (setupOf h) (view l) (B.step l (h .n)) (startBytes l h) (byteHistory l (start h) es)
   -- any two decisions shown are the same
-  pub decisions-same : (p q : Played) → List·Memᴰ p (rows l h es) → List·Memᴰ q (rows l h es) → (v w : ℕ)
-      → p .reply .decision ≡ Mileage v
-      → q .reply .decision ≡ Mileage w
+  pub decisions-same : (p q : Played) → List·Memᴰ p (playedLines l h es) → List·Memᴰ q (playedLines l h es) → (v w : ℕ)
+      → p .answer .decision ≡ Mileage v
+      → q .answer .decision ≡ Mileage w
       → v ≡ w
   -- each was proposed on an earlier line
   pub decision-proposed : EachLine es (λ before e.
-      (v : ℕ) → answer l (after l h before) e .decision ≡ Mileage v → ProposedIn v (rows l h before))
+      (v : ℕ) → answer l (after l h before) e .decision ≡ Mileage v → ProposedIn v (playedLines l h before))
   -- 11 exactly where no place is left for a message
   pub full-only : EachLine es (λ before e. answer l (after l h before) e .refusal ≡ Refusal.Full → NoPlace l (after l h before) e)
   pub full-met : EachLine es (λ before e.
@@ -73,9 +73,9 @@ pub record Covered (l : Limits) (h : Header) (es : List Event) : Type 0 where
   -- a refused line changes nothing
   pub refused-stays : EachLine es (λ before e.
       (numberOf (answer l (after l h before) e .refusal) ≡ 0 → ⊥) → Unchanged (after l h before) (answer l (after l h before) e))
-  -- a row for each line; as many messages kept as rows that sent one, and their numbers are 0, 1, 2 and so on
-  pub as-many : length (rows l h es) ≡ length es
-  pub kept : after l h es .kept ≡ length (sentNumbers (rows l h es))
-  pub numbers : sentNumbers (rows l h es) ≡ rising 0 (after l h es .kept)
+  -- a line for each line; as many messages kept as lines that sent one, and their numbers are 0, 1, 2 and so on
+  pub as-many : length (playedLines l h es) ≡ length es
+  pub kept : after l h es .kept ≡ length (sentNumbers (playedLines l h es))
+  pub numbers : sentNumbers (playedLines l h es) ≡ rising 0 (after l h es .kept)
   -- where rounds go up to 128 or above, 1 to 4 and 7 are never met
-  pub numbers-met : places ≤ l .lastRound → (p : Played) → List·Memᴰ p (rows l h es) → List·Memᴰ (numberOf (p .reply .refusal)) met
+  pub numbers-met : places ≤ l .lastRound → (p : Played) → List·Memᴰ p (playedLines l h es) → List·Memᴰ (numberOf (p .answer .refusal)) met

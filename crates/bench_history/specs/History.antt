@@ -9,76 +9,76 @@ use Rattle.tally.specs.Limits.{Limits, logSize, imageSize}
 use Rattle.tally.specs.Refusal.{numberOf}
 use Rattle.tally.specs.declared.Estimate.{Estimate}
 use Rattle.tally.specs.declared.Estimate.the-variants.{Blank, Split, Mileage}
-use Rattle.codec.specs.Messages.{emptyBytes}
+use Rattle.formats.specs.Messages.{emptyBytes}
 use Rattle.agreement.specs.Bytes as B
 use Rattle.agreement.specs.Contents as C
 use Rattle.agreement.specs.Worlds.{Setup, Proposal, Decision, run}
-use Rattle.bench_script.specs.Script.{eventUnit}
-use Rattle.bench_script.specs.declared.Event.{Event}
-use Rattle.bench_script.specs.declared.Header.{Header}
+use Rattle.script.specs.Script.{eventUnit}
+use Rattle.script.specs.declared.ScriptEvent.{ScriptEvent}
+use Rattle.script.specs.declared.Header.{Header}
 use Rattle.bench_play.specs.Bench.{start, unitAt}
 use Rattle.bench_play.specs.Play.{Played, play}
 use Rattle.bench_play.specs.declared.Bench.{Bench}
-use Rattle.bench_play.specs.declared.Reply.{Reply}
+use Rattle.bench_play.specs.declared.LineAnswer.{LineAnswer}
 
 abbrev pub setupOf : Header → Setup
 setupOf h = record { engine = h .engine; n = h .n; entry = h .entry }
 
 -- each event's unit is below n
-abbrev pub Below : ℕ → List Event → Type 0
+abbrev pub Below : ℕ → List ScriptEvent → Type 0
 Below n [] = Unit
 Below n (e ∷ es) = (eventUnit e < n) × Below n es
 
 -- ---- the events of agreement
 
-abbrev pub isAccepted : Reply → Bool
+abbrev pub isAccepted : LineAnswer → Bool
 isAccepted r = eqb (numberOf (r .refusal)) 0
 
 -- what f gives of an accepted line's event; of a refused line nothing
-abbrev pub ofAccepted : {A : Type 0} → (Event → List A) → Played → List A
-ofAccepted f p = cond (isAccepted (p .reply)) (f (p .event)) []
+abbrev pub ofAccepted : {A : Type 0} → (ScriptEvent → List A) → Played → List A
+ofAccepted f p = cond (isAccepted (p .answer)) (f (p .event)) []
 
 -- over contents; a malformed line is none
-abbrev pub contentsEvent : Event → List C.Event
-contentsEvent Event.Malformed = []
-contentsEvent (Event.Propose u v) = C.proposal u v ∷ []
-contentsEvent (Event.Deliver u k) = C.delivery u k ∷ []
-contentsEvent (Event.Cut u k) = C.cut u k ∷ []
-contentsEvent (Event.KeyOff u) = C.off u ∷ []
-contentsEvent (Event.KeyOn u) = C.on u ∷ []
+abbrev pub contentsEvent : ScriptEvent → List C.ContentsEvent
+contentsEvent ScriptEvent.Malformed = []
+contentsEvent (ScriptEvent.Propose u v) = C.proposal u v ∷ []
+contentsEvent (ScriptEvent.Deliver u k) = C.delivery u k ∷ []
+contentsEvent (ScriptEvent.Cut u k) = C.cut u k ∷ []
+contentsEvent (ScriptEvent.KeyOff u) = C.off u ∷ []
+contentsEvent (ScriptEvent.KeyOn u) = C.on u ∷ []
 
 abbrev pub zeros : ℕ → List ℕ
 zeros k = replicate k 0
 
 -- over bytes: each is the call on the unit's own log and image, with an output or image buffer of the right length
-abbrev pub byteEvent : Limits → Event → List B.Event
-byteEvent l Event.Malformed = []
-byteEvent l (Event.Propose u v) = B.proposal u v (emptyBytes l) ∷ []
-byteEvent l (Event.Deliver u k) = B.delivery u k (emptyBytes l) ∷ []
-byteEvent l (Event.Cut u k) = B.cut u k (emptyBytes l) ∷ []
-byteEvent l (Event.KeyOff u) = B.off u ∷ []
-byteEvent l (Event.KeyOn u) = B.on u (zeros (imageSize l)) ∷ []
+abbrev pub byteEvent : Limits → ScriptEvent → List B.Event
+byteEvent l ScriptEvent.Malformed = []
+byteEvent l (ScriptEvent.Propose u v) = B.proposal u v (emptyBytes l) ∷ []
+byteEvent l (ScriptEvent.Deliver u k) = B.delivery u k (emptyBytes l) ∷ []
+byteEvent l (ScriptEvent.Cut u k) = B.cut u k (emptyBytes l) ∷ []
+byteEvent l (ScriptEvent.KeyOff u) = B.off u ∷ []
+byteEvent l (ScriptEvent.KeyOn u) = B.on u (zeros (imageSize l)) ∷ []
 
 -- in the order of the lines
-unfoldable pub history : Limits → Bench → List Event → List C.Event
+unfoldable pub history : Limits → Bench → List ScriptEvent → List C.ContentsEvent
 history l b es = flatMap (ofAccepted contentsEvent) (play l b es)
 
-unfoldable pub byteHistory : Limits → Bench → List Event → List B.Event
+unfoldable pub byteHistory : Limits → Bench → List ScriptEvent → List B.Event
 byteHistory l b es = flatMap (ofAccepted (byteEvent l)) (play l b es)
 
--- ---- what the rows show
+-- ---- what the lines show
 
 -- the accepted proposals, in order
-abbrev pub proposalOf : Event → List Proposal
-proposalOf Event.Malformed = []
-proposalOf (Event.Propose u v) = record { unit = u; mileage = v } ∷ []
-proposalOf (Event.Deliver u k) = []
-proposalOf (Event.Cut u k) = []
-proposalOf (Event.KeyOff u) = []
-proposalOf (Event.KeyOn u) = []
+abbrev pub proposalOf : ScriptEvent → List Proposal
+proposalOf ScriptEvent.Malformed = []
+proposalOf (ScriptEvent.Propose u v) = record { unit = u; mileage = v } ∷ []
+proposalOf (ScriptEvent.Deliver u k) = []
+proposalOf (ScriptEvent.Cut u k) = []
+proposalOf (ScriptEvent.KeyOff u) = []
+proposalOf (ScriptEvent.KeyOn u) = []
 
 unfoldable pub proposals : List Played → List Proposal
-proposals rows = flatMap (ofAccepted proposalOf) rows
+proposals lines = flatMap (ofAccepted proposalOf) lines
 
 -- the decisions shown, in order: a mileage, and the unit of the line
 pub record Decided : Type 0 where
@@ -91,7 +91,7 @@ decidedOf u Split = []
 decidedOf u (Mileage v) = record { unit = u; mileage = v } ∷ []
 
 unfoldable pub decisions : List Played → List Decided
-decisions rows = flatMap (λ (p : Played). decidedOf (eventUnit (p .event)) (p .reply .decision)) rows
+decisions lines = flatMap (λ (p : Played). decidedOf (eventUnit (p .event)) (p .answer .decision)) lines
 
 -- a decision of agreement, without its round
 abbrev pub withoutRound : Decision → Decided
@@ -99,15 +99,15 @@ withoutRound d = record { unit = d .unit; mileage = d .mileage }
 
 -- ---- the bench and the worlds
 
--- the world w is the bench b after the rows: the same units below n, messages, proposals and decisions
-pub record Shows (n : ℕ) (b : Bench) (rows : List Played) (w : C.ContentsWorld) : Type 0 where
+-- the world w is the bench b after the lines: the same units below n, messages, proposals and decisions
+pub record Shows (n : ℕ) (b : Bench) (lines : List Played) (w : C.ContentsWorld) : Type 0 where
   pub units : (u : ℕ) → u < n → w .units u ≡ unitAt b u
   pub sent : w .sent ≡ take (b .kept) (b .messages)
-  pub proposed : w .proposed ≡ proposals rows
-  pub decided : map withoutRound (w .decided) ≡ decisions rows
+  pub proposed : w .proposed ≡ proposals lines
+  pub decided : map withoutRound (w .decided) ≡ decisions lines
 
 -- the world after a script
-unfoldable pub contentsAfter : Limits → Header → List Event → C.ContentsWorld
+unfoldable pub contentsAfter : Limits → Header → List ScriptEvent → C.ContentsWorld
 contentsAfter l h es = run (C.step l (h .n)) (C.begun (setupOf h)) (history l (start h) es)
 
 -- at the start each unit is started in buffers of zeros
@@ -120,5 +120,5 @@ startImage l u = zeros (imageSize l)
 abbrev pub startBytes : Limits → Header → B.ByteWorld
 startBytes l h = B.begun l (setupOf h) (startLog l) (startImage l)
 
-unfoldable pub bytesAfter : Limits → Header → List Event → B.ByteWorld
+unfoldable pub bytesAfter : Limits → Header → List ScriptEvent → B.ByteWorld
 bytesAfter l h es = run (B.step l (h .n)) (startBytes l h) (byteHistory l (start h) es)

@@ -10,7 +10,7 @@ use Rattle.tally.specs.Refusal.{numberOf}
 use Rattle.tally.specs.declared.Refusal.{Refusal}
 use Rattle.tally.proofs.Never.{never}
 use Rattle.consensus.specs.Methods.{isUp, refuses, unless, propose, deliver, keyOff, keyOn}
-use Rattle.consensus.specs.Rows.{firstOf}
+use Rattle.consensus.specs.Conditions.{firstOf}
 use Rattle.consensus.specs.Step.{quiet, recovered}
 use Rattle.consensus.specs.Units.{unitLog, downUnit}
 use Rattle.consensus.specs.declared.Answer.{Answer}
@@ -20,11 +20,11 @@ use Rattle.consensus.specs.declared.Unit as U
 use Rattle.consensus.proofs.Answers.{deliver-power}
 use Rattle.consensus.proofs.Order.{first-lowest}
 use Rattle.consensus.proofs.Refusals.{propose-down}
-use Rattle.bench_script.specs.declared.Event.{Event}
+use Rattle.script.specs.declared.ScriptEvent.{ScriptEvent}
 use Rattle.bench_play.specs.Bench.{unitAt, messageAt}
-use Rattle.bench_play.specs.Play.{deliveryRows, delivery, cutShort, unitAnswer, answer}
+use Rattle.bench_play.specs.Play.{deliveryConditions, delivery, cutShort, unitAnswer, answer}
 use Rattle.bench_play.specs.declared.Bench.{Bench}
-use Rattle.bench_play.specs.declared.Reply.{Reply}
+use Rattle.bench_play.specs.declared.LineAnswer.{LineAnswer}
 use Rattle.bench_play.proofs.Settled.{by-answer, unless-accepts}
 
 abbrev pub Accepts : Answer → Type 0
@@ -53,20 +53,20 @@ pub record Delivered (l : Limits) (b : Bench) (u k : ℕ) : Type 0 where
   pub same : delivery l b u k ≡ deliver l (unitAt b u) (messageAt b k)
 
 pub delivered : (l : Limits) (b : Bench) (u k : ℕ) → Accepts (delivery l b u k) → Delivered l b u k
-unfolding delivery deliveryRows
+unfolding delivery deliveryConditions
 delivered l b u k zero =
-    let a = unless-accepts (deliveryRows b u k) (unitAt b u) (deliver l (unitAt b u) (messageAt b k)) zero in
-    let none = first-lowest (deliveryRows b u k) (omega arith, (omega arith, tt)) .accepted (a .0) in
+    let a = unless-accepts (deliveryConditions b u k) (unitAt b u) (deliver l (unitAt b u) (messageAt b k)) zero in
+    let none = first-lowest (deliveryConditions b u k) (omega arith, (omega arith, tt)) .accepted (a .0) in
     record { up = is-up _ (not-false _ (none .0)); sent = leb-false _ _ (none .1 .0); same = a .1 }
 
 -- 9 before 10, whatever the message; and 10 before the unit's own numbers
 pub delivery-down : (l : Limits) (b : Bench) (u k : ℕ) → unitAt b u .power ≡ Down → delivery l b u k ≡ refuses (unitAt b u) Refusal.Power
-unfolding delivery deliveryRows unless firstOf
+unfolding delivery deliveryConditions unless firstOf
 delivery-down l b u k down = rw down
 
 pub delivery-unsent : (l : Limits) (b : Bench) (u k : ℕ) → unitAt b u .power ≡ Up → b .kept ≤ k
     → delivery l b u k ≡ refuses (unitAt b u) Refusal.Unsent
-unfolding delivery deliveryRows unless firstOf
+unfolding delivery deliveryConditions unless firstOf
 delivery-unsent l b u k up unsent = rw (up, le-leb (b .kept) k unsent)
 
 -- a cut that is accepted is a delivery that is, and the key off after it
@@ -106,10 +106,10 @@ on-accepted x zero =
     (is-down _ (first-lowest _ (omega arith, tt) .accepted (a .0) .0), a .1)
 
 -- unless 11 refuses it, the number of a line is its unit's own
-pub own-number : (l : Limits) (b : Bench) (e : Event) → (answer l b e .refusal ≡ Refusal.Full → ⊥)
+pub own-number : (l : Limits) (b : Bench) (e : ScriptEvent) → (answer l b e .refusal ≡ Refusal.Full → ⊥)
     → numberOf (unitAnswer l b e .refusal) ≡ numberOf (answer l b e .refusal)
 own-number l b e =
-    by-answer (λ (r : Reply). (r .refusal ≡ Refusal.Full → ⊥) → numberOf (unitAnswer l b e .refusal) ≡ numberOf (r .refusal)) l b e
+    by-answer (λ (r : LineAnswer). (r .refusal ≡ Refusal.Full → ⊥) → numberOf (unitAnswer l b e .refusal) ≡ numberOf (r .refusal)) l b e
     (record {
       refuses = λ some other. refl;
       quiet = λ ok empty other. ok;
@@ -118,5 +118,5 @@ own-number l b e =
     })
 
 -- what the bench accepts, its unit does
-pub accepts : (l : Limits) (b : Bench) (e : Event) → numberOf (answer l b e .refusal) ≡ 0 → Accepts (unitAnswer l b e)
+pub accepts : (l : Limits) (b : Bench) (e : ScriptEvent) → numberOf (answer l b e .refusal) ≡ 0 → Accepts (unitAnswer l b e)
 accepts l b e zero = own-number l b e (λ full. absurd (omega (arith, ap numberOf full, zero))) ∙ zero

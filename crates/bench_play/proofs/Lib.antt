@@ -1,4 +1,4 @@
 pub mod Accepting
 pub mod Numbers
-pub mod Rows
+pub mod PlayedLines
 pub mod Settled

@@ -10,19 +10,19 @@ use Rattle.tally.specs.Limits.{Limits, places}
 use Rattle.tally.specs.Refusal.{numberOf}
 use Rattle.tally.specs.declared.Refusal.{Refusal}
 use Rattle.contents.specs.Messages.{messageOk}
-use Rattle.consensus.specs.Methods.{unless, refuses, closesLast, proposeRows, propose, deliverRows, deliver, keyOff, keyOn}
-use Rattle.consensus.specs.Rows.{Row, firstOf}
+use Rattle.consensus.specs.Methods.{unless, refuses, closesLast, proposeConditions, propose, deliverConditions, deliver, keyOff, keyOn}
+use Rattle.consensus.specs.Conditions.{Condition, firstOf}
 use Rattle.consensus.specs.Step.{proposed, received}
 use Rattle.consensus.specs.declared.Answer.{Answer}
 use Rattle.consensus.specs.declared.Unit as U
 use Rattle.consensus.proofs.Answers.{plain-proposed, plain-received}
 use Rattle.consensus.proofs.Order.{first-lowest}
-use Rattle.bench_script.specs.Script.{eventUnit}
-use Rattle.bench_script.specs.declared.Event.{Event}
+use Rattle.script.specs.Script.{eventUnit}
+use Rattle.script.specs.declared.ScriptEvent.{ScriptEvent}
 use Rattle.bench_play.specs.Bench.{unitAt, messageAt}
-use Rattle.bench_play.specs.Play.{deliveryRows, delivery, cutShort, unitAnswer, answer}
+use Rattle.bench_play.specs.Play.{deliveryConditions, delivery, cutShort, unitAnswer, answer}
 use Rattle.bench_play.specs.declared.Bench.{Bench}
-use Rattle.bench_play.specs.declared.Reply.{Reply}
+use Rattle.bench_play.specs.declared.LineAnswer.{LineAnswer}
 use Rattle.bench_play.specs.Claims.{Sized, WouldSend, Sending, proposing, delivering, NoPlace}
 use Rattle.bench_play.proofs.Accepting.{cut-accepted, off-accepted, on-accepted}
 use Rattle.bench_play.proofs.Settled.{by-answer}
@@ -42,12 +42,12 @@ pub record Each (Q : Refusal → Type 0) (l : Limits) (b : Bench) (u : ℕ) : Ty
   pub last : (k : ℕ) → k < b .kept → closesLast l (unitAt b u) (messageAt b k) ≡ true → Q Refusal.LastRound
 
 module _ (Q : Refusal → Type 0) where
-  -- of each row that holds
-  abbrev Holding : List Row → Type 0
+  -- of each condition that holds
+  abbrev Holding : List Condition → Type 0
   Holding [] = Unit
   Holding (r ∷ rs) = (r .holds ≡ true → Q (r .refusal)) × Holding rs
 
-  first-of : Q Refusal.None → (rows : List Row) → Holding rows → Q (firstOf rows)
+  first-of : Q Refusal.None → (cs : List Condition) → Holding cs → Q (firstOf cs)
   unfolding firstOf
   first-of none [] h = none
   first-of none (r ∷ rs) h = go (r .holds) refl (first-of none rs (h .1))
@@ -56,29 +56,29 @@ module _ (Q : Refusal → Type 0) where
       go true e later = h .0 e
       go false e later = later
 
-  unless-of : Q Refusal.None → (rows : List Row) (u : U.Unit) (a : Answer) → Holding rows → (numberOf (firstOf rows) ≡ 0 → Q (a .refusal))
-      → Q (unless rows u a .refusal)
+  unless-of : Q Refusal.None → (cs : List Condition) (u : U.Unit) (a : Answer) → Holding cs → (numberOf (firstOf cs) ≡ 0 → Q (a .refusal))
+      → Q (unless cs u a .refusal)
   unfolding unless
-  unless-of none rows u a h accepted = go (eqb (numberOf (firstOf rows)) 0) refl
+  unless-of none cs u a h accepted = go (eqb (numberOf (firstOf cs)) 0) refl
     where
-      go : (t : Bool) → eqb (numberOf (firstOf rows)) 0 ≡ t → Q (cond t a (refuses u (firstOf rows)) .refusal)
+      go : (t : Bool) → eqb (numberOf (firstOf cs)) 0 ≡ t → Q (cond t a (refuses u (firstOf cs)) .refusal)
       go true e = accepted (eqb-true _ _ e)
-      go false e = first-of none rows h
+      go false e = first-of none cs h
 
   module _ (l : Limits) (b : Bench) (u : ℕ) (each : Each Q l b u) where
     of-propose : (v : ℕ) → Q (propose l (unitAt b u) v .refusal)
-    unfolding propose proposeRows
+    unfolding propose proposeConditions
     of-propose v =
-        unless-of (each .none) (proposeRows l (unitAt b u) v) (unitAt b u) (proposed (unitAt b u) v)
+        unless-of (each .none) (proposeConditions l (unitAt b u) v) (unitAt b u) (proposed (unitAt b u) v)
         (λ h. each .power, (λ h. each .mileage, tt)) (λ ok. rw (plain-proposed (unitAt b u) v .none) (each .none))
 
     of-delivery : (k : ℕ) → Q (delivery l b u k .refusal)
-    unfolding delivery deliveryRows deliver deliverRows
+    unfolding delivery deliveryConditions deliver deliverConditions
     of-delivery k =
-        unless-of (each .none) (deliveryRows b u k) (unitAt b u) (deliver l (unitAt b u) (messageAt b k)) (λ h. each .power, (λ h. each .unsent, tt))
+        unless-of (each .none) (deliveryConditions b u k) (unitAt b u) (deliver l (unitAt b u) (messageAt b k)) (λ h. each .power, (λ h. each .unsent, tt))
         (λ ok.
-        let sent : k < b .kept = leb-false _ _ (first-lowest (deliveryRows b u k) (omega arith, (omega arith, tt)) .accepted ok .1 .0) in
-        unless-of (each .none) (deliverRows l (unitAt b u) (messageAt b k)) (unitAt b u) (received (unitAt b u) (messageAt b k))
+        let sent : k < b .kept = leb-false _ _ (first-lowest (deliveryConditions b u k) (omega arith, (omega arith, tt)) .accepted ok .1 .0) in
+        unless-of (each .none) (deliverConditions l (unitAt b u) (messageAt b k)) (unitAt b u) (received (unitAt b u) (messageAt b k))
         (λ h. each .message k sent (not-true _ h), (λ h. each .power, (λ h. each .addressee, (λ h. each .last k sent h, tt))))
         (λ ok. rw (plain-received (unitAt b u) (messageAt b k) .none) (each .none)))
 
@@ -98,19 +98,19 @@ module _ (Q : Refusal → Type 0) where
         go true = of-key-off (a .unit)
         go false = own
 
-  pub of-unit : (l : Limits) (b : Bench) (e : Event) → Each Q l b (eventUnit e) → Q (unitAnswer l b e .refusal)
+  pub of-unit : (l : Limits) (b : Bench) (e : ScriptEvent) → Each Q l b (eventUnit e) → Q (unitAnswer l b e .refusal)
   unfolding unitAnswer
-  of-unit l b Event.Malformed each = each .line
-  of-unit l b (Event.Propose u v) each = of-propose l b u each v
-  of-unit l b (Event.Deliver u k) each = of-delivery l b u each k
-  of-unit l b (Event.Cut u k) each = of-cut l b u each (delivery l b u k) (of-delivery l b u each k)
-  of-unit l b (Event.KeyOff u) each = of-key-off l b u each (unitAt b u)
-  of-unit l b (Event.KeyOn u) each = of-key-on l b u each (unitAt b u)
+  of-unit l b ScriptEvent.Malformed each = each .line
+  of-unit l b (ScriptEvent.Propose u v) each = of-propose l b u each v
+  of-unit l b (ScriptEvent.Deliver u k) each = of-delivery l b u each k
+  of-unit l b (ScriptEvent.Cut u k) each = of-cut l b u each (delivery l b u k) (of-delivery l b u each k)
+  of-unit l b (ScriptEvent.KeyOff u) each = of-key-off l b u each (unitAt b u)
+  of-unit l b (ScriptEvent.KeyOn u) each = of-key-on l b u each (unitAt b u)
 
 -- ---- 11
 
 -- 11 is none of a unit's own
-own-below : (l : Limits) (b : Bench) (e : Event) → numberOf (unitAnswer l b e .refusal) < 11
+own-below : (l : Limits) (b : Bench) (e : ScriptEvent) → numberOf (unitAnswer l b e .refusal) < 11
 own-below l b e =
     of-unit (λ k. numberOf k < 11) l b e
     (record {
@@ -125,22 +125,22 @@ own-below l b e =
     })
 
 -- W, K and U send nothing
-sending : (l : Limits) (b : Bench) (e : Event) → WouldSend l b e → Sending e
+sending : (l : Limits) (b : Bench) (e : ScriptEvent) → WouldSend l b e → Sending e
 unfolding unitAnswer
-sending l b Event.Malformed w = absurd (omega (arith, w .accepted))
-sending l b (Event.Propose u v) w = proposing
-sending l b (Event.Deliver u k) w = delivering
-sending l b (Event.Cut u k) w =
+sending l b ScriptEvent.Malformed w = absurd (omega (arith, w .accepted))
+sending l b (ScriptEvent.Propose u v) w = proposing
+sending l b (ScriptEvent.Deliver u k) w = delivering
+sending l b (ScriptEvent.Cut u k) w =
     let c = cut-accepted (delivery l b u k) (w .accepted) in
     let off = off-accepted (delivery l b u k .unit) (rw (c .1) at (w .accepted)) in
     absurd (w .message (rw (c .1 ∙ off)))
-sending l b (Event.KeyOff u) w = absurd (w .message (rw (off-accepted (unitAt b u) (w .accepted))))
-sending l b (Event.KeyOn u) w = absurd (w .message (rw (on-accepted (unitAt b u) (w .accepted) .1)))
+sending l b (ScriptEvent.KeyOff u) w = absurd (w .message (rw (off-accepted (unitAt b u) (w .accepted))))
+sending l b (ScriptEvent.KeyOn u) w = absurd (w .message (rw (on-accepted (unitAt b u) (w .accepted) .1)))
 
 -- of any bench that is not overfull
-pub full-only : (l : Limits) (b : Bench) → Sized b → (e : Event) → answer l b e .refusal ≡ Refusal.Full → NoPlace l b e
+pub full-only : (l : Limits) (b : Bench) → Sized b → (e : ScriptEvent) → answer l b e .refusal ≡ Refusal.Full → NoPlace l b e
 full-only l b sized e =
-    by-answer (λ (r : Reply). r .refusal ≡ Refusal.Full → NoPlace l b e) l b e
+    by-answer (λ (r : LineAnswer). r .refusal ≡ Refusal.Full → NoPlace l b e) l b e
     (record {
       refuses = λ some q. absurd (omega (arith, own-below l b e, ap numberOf q));
       quiet = λ ok empty q. absurd (omega (arith, ap numberOf q));
@@ -151,9 +151,9 @@ full-only l b sized e =
     })
 
 -- and of any bench at all
-pub full-met : (l : Limits) (b : Bench) (e : Event) → WouldSend l b e → places ≤ b .kept → answer l b e .refusal ≡ Refusal.Full
+pub full-met : (l : Limits) (b : Bench) (e : ScriptEvent) → WouldSend l b e → places ≤ b .kept → answer l b e .refusal ≡ Refusal.Full
 full-met l b e would full =
-    by-answer (λ (r : Reply). r .refusal ≡ Refusal.Full) l b e
+    by-answer (λ (r : LineAnswer). r .refusal ≡ Refusal.Full) l b e
     (record {
       refuses = λ some. absurd (some (would .accepted));
       quiet = λ ok empty. absurd (would .message empty);

@@ -13,15 +13,15 @@ use Rattle.contents.specs.Messages.{isEmpty}
 use Rattle.contents.specs.declared.Kind.{Kind}
 use Rattle.contents.specs.declared.Kind.the-variants.{Empty, First, Check, Second, Skip}
 use Rattle.consensus.specs.Methods.{refuses, unless}
-use Rattle.consensus.specs.Rows.{Row, firstOf}
+use Rattle.consensus.specs.Conditions.{Condition, firstOf}
 use Rattle.consensus.specs.declared.Answer.{Answer}
 use Rattle.consensus.specs.declared.Unit as U
-use Rattle.bench_script.specs.Script.{eventUnit}
-use Rattle.bench_script.specs.declared.Event.{Event}
+use Rattle.script.specs.Script.{eventUnit}
+use Rattle.script.specs.declared.ScriptEvent.{ScriptEvent}
 use Rattle.bench_play.specs.Bench.{noUnit, refused, accepted, noPlaceLeft, withUnit, withMessage, send, settle}
 use Rattle.bench_play.specs.Play.{unitAnswer, answer}
 use Rattle.bench_play.specs.declared.Bench.{Bench}
-use Rattle.bench_play.specs.declared.Reply.{Reply}
+use Rattle.bench_play.specs.declared.LineAnswer.{LineAnswer}
 use Rattle.bench_play.specs.declared.Sent.{Sent}
 
 is-empty : (k : Kind) → isEmpty k ≡ true → k ≡ Empty
@@ -40,14 +40,14 @@ unfolding noPlaceLeft withUnit
 place-left b u x h = leb-false places (b .kept) h
 
 -- the bench's answer to an answer a of unit u
-pub record Settling (P : Reply → Type 0) (b : Bench) (u : ℕ) (a : Answer) : Type 0 where
+pub record Settling (P : LineAnswer → Type 0) (b : Bench) (u : ℕ) (a : Answer) : Type 0 where
   pub refuses : (numberOf (a .refusal) ≡ 0 → ⊥) → P (refused b (a .refusal))
   pub quiet : numberOf (a .refusal) ≡ 0 → a .message .kind ≡ Empty → P (accepted (withUnit b u (a .unit)) Sent.Nothing (a .decision))
   pub full : numberOf (a .refusal) ≡ 0 → (a .message .kind ≡ Empty → ⊥) → places ≤ b .kept → P (refused b Refusal.Full)
   pub sends : numberOf (a .refusal) ≡ 0 → (a .message .kind ≡ Empty → ⊥) → b .kept < places
       → P (accepted (withMessage (withUnit b u (a .unit)) (a .message)) (Sent.At (b .kept)) (a .decision))
 
-pub by-settle : (P : Reply → Type 0) (b : Bench) (u : ℕ) (a : Answer) → Settling P b u a → P (settle b u a)
+pub by-settle : (P : LineAnswer → Type 0) (b : Bench) (u : ℕ) (a : Answer) → Settling P b u a → P (settle b u a)
 unfolding settle send noPlaceLeft
 by-settle P b u a s = number (eqb (numberOf (a .refusal)) 0) refl
   where
@@ -71,21 +71,21 @@ pub refused-line : {b : Bench} → settle b 0 (refuses noUnit Refusal.Line) ≡ 
 unfolding settle
 refused-line {b} = refl
 
-pub answer-line : (l : Limits) (b : Bench) → answer l b Event.Malformed ≡ refused b Refusal.Line
+pub answer-line : (l : Limits) (b : Bench) → answer l b ScriptEvent.Malformed ≡ refused b Refusal.Line
 unfolding answer unitAnswer
 answer-line l b = refused-line
 
-pub by-answer : (P : Reply → Type 0) (l : Limits) (b : Bench) (e : Event) → Settling P b (eventUnit e) (unitAnswer l b e) → P (answer l b e)
+pub by-answer : (P : LineAnswer → Type 0) (l : Limits) (b : Bench) (e : ScriptEvent) → Settling P b (eventUnit e) (unitAnswer l b e) → P (answer l b e)
 unfolding answer
 by-answer P l b e s = by-settle P b (eventUnit e) (unitAnswer l b e) s
 
 -- a method whose number is 0 is the step's answer
-pub unless-accepts : (rows : List Row) (u : U.Unit) (a : Answer) → numberOf (unless rows u a .refusal) ≡ 0
-    → (numberOf (firstOf rows) ≡ 0) × (unless rows u a ≡ a)
+pub unless-accepts : (cs : List Condition) (u : U.Unit) (a : Answer) → numberOf (unless cs u a .refusal) ≡ 0
+    → (numberOf (firstOf cs) ≡ 0) × (unless cs u a ≡ a)
 unfolding unless
-unless-accepts rows u a = go (eqb (numberOf (firstOf rows)) 0) refl
+unless-accepts cs u a = go (eqb (numberOf (firstOf cs)) 0) refl
   where
-    go : (t : Bool) → eqb (numberOf (firstOf rows)) 0 ≡ t → numberOf (cond t a (refuses u (firstOf rows)) .refusal) ≡ 0
-        → (numberOf (firstOf rows) ≡ 0) × (cond t a (refuses u (firstOf rows)) ≡ a)
+    go : (t : Bool) → eqb (numberOf (firstOf cs)) 0 ≡ t → numberOf (cond t a (refuses u (firstOf cs)) .refusal) ≡ 0
+        → (numberOf (firstOf cs) ≡ 0) × (cond t a (refuses u (firstOf cs)) ≡ a)
     go true e h = (eqb-true _ _ e, refl)
     go false e h = absurd (eqb-false _ _ e h)

@@ -17,9 +17,9 @@ use Rattle.consensus.specs.Step.{emptyMessage, fresh, clean}
 use Rattle.consensus.specs.declared.Answer.{Answer}
 use Rattle.consensus.specs.declared.Power.the-variants.{Down}
 use Rattle.consensus.specs.declared.Unit as U
-use Rattle.bench_script.specs.declared.Header.{Header}
+use Rattle.script.specs.declared.Header.{Header}
 use Rattle.bench_play.specs.declared.Bench.{Bench}
-use Rattle.bench_play.specs.declared.Reply.{Reply}
+use Rattle.bench_play.specs.declared.LineAnswer.{LineAnswer}
 use Rattle.bench_play.specs.declared.Sent.{Sent}
 
 -- ---- at the start
@@ -60,10 +60,10 @@ messageAt b k = getD (b .messages) k emptyMessage
 -- ---- answers
 
 -- a refused event changes nothing, sends nothing and decides nothing
-abbrev pub refused : Bench → Refusal → Reply
+abbrev pub refused : Bench → Refusal → LineAnswer
 refused b k = record { bench = b; refusal = k; sent = Sent.Nothing; decision = Blank }
 
-abbrev pub accepted : Bench → Sent → Estimate → Reply
+abbrev pub accepted : Bench → Sent → Estimate → LineAnswer
 accepted b s d = record { bench = b; refusal = Refusal.None; sent = s; decision = d }
 
 -- 11: no place is left for a message of unit u
@@ -79,13 +79,13 @@ unfoldable pub withMessage : Bench → Message → Bench
 withMessage b m = record { units = b .units; messages = set (b .messages) (b .kept) m; kept = b .kept + 1 }
 
 -- 11 is last, and refuses the whole event
-unfoldable pub send : Bench → ℕ → Answer → Reply
+unfoldable pub send : Bench → ℕ → Answer → LineAnswer
 send b u a =
     cond (noPlaceLeft b u) (refused b Refusal.Full)
     (accepted (withMessage (withUnit b u (a .unit)) (a .message)) (Sent.At (b .kept)) (a .decision))
 
 -- what unit u's answer makes of the bench
-unfoldable pub settle : Bench → ℕ → Answer → Reply
+unfoldable pub settle : Bench → ℕ → Answer → LineAnswer
 settle b u a =
     cond (eqb (numberOf (a .refusal)) 0)
     (cond (isEmpty (a .message .kind)) (accepted (withUnit b u (a .unit)) Sent.Nothing (a .decision)) (send b u a))

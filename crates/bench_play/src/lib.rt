@@ -1,21 +1,21 @@
 // The bench: units and message places by value, and the events that are played on it.
-use bench_script::Event;
-use bench_script::Header;
 use consensus::Answer;
 use consensus::Unit;
 use consensus::methods;
 use consensus::step;
 use contents::Message;
 use contents::Settings;
+use script::Header;
+use script::ScriptEvent;
 use tally::Estimate;
 use tally::Refusal;
 use tally::limits;
 ghost use mathlib.Core.Path.{_≡_};
 ghost use Prim.Native.Nat.{_<_, _≤_};
 ghost use Rattle.tally.specs.Limits.{today, senders, places};
-ghost use Rattle.bench_script.specs.Script.{eventUnit};
-ghost use Rattle.bench_play.specs.Bench.{settingsOf, freshUnits, start, unitAt, messageAt, refused, accepted, noPlaceLeft};
-ghost use Rattle.bench_play.specs.Bench.{withUnit, withMessage, send, settle};
+ghost use Rattle.script.specs.Script.{eventUnit};
+ghost use Rattle.bench_play.specs.Bench.{settingsOf, freshUnits, start, unitAt, messageAt, refused, accepted, noPlaceLeft, withUnit, withMessage, send};
+ghost use Rattle.bench_play.specs.Bench.{settle};
 ghost use Rattle.consensus.specs.Step.{fresh};
 ghost use Rattle.bench_play.specs.Play.{delivery, cutShort, answer};
 
@@ -33,7 +33,7 @@ pub enum Sent {
 }
 
 // What an event is answered: a refusal or None, the bench after it, the message sent, and a mileage decided or blank.
-pub struct Reply {
+pub struct LineAnswer {
     pub bench: Bench,
     pub refusal: Refusal,
     pub sent: Sent,
@@ -106,10 +106,10 @@ impl Bench {
         self.messages[at]
     }
 
-    fn refused(self, refusal: Refusal) -> Reply
+    fn refused(self, refusal: Refusal) -> LineAnswer
         ensures { λ r. ⌜ r ≡ refused self refusal ⌝ }
     {
-        Reply {
+        LineAnswer {
             bench: self,
             refusal,
             sent: Sent::Nothing,
@@ -117,10 +117,10 @@ impl Bench {
         }
     }
 
-    fn accepted(self, sent: Sent, decision: Estimate) -> Reply
+    fn accepted(self, sent: Sent, decision: Estimate) -> LineAnswer
         ensures { λ r. ⌜ r ≡ accepted self sent decision ⌝ }
     {
-        Reply {
+        LineAnswer {
             bench: self,
             refusal: Refusal::None,
             sent,
@@ -155,7 +155,7 @@ impl Bench {
     }
 
     // An accepted answer with a message, where there is a place for it.
-    fn send(self, u: u32, a: Answer) -> Reply
+    fn send(self, u: u32, a: Answer) -> LineAnswer
         requires { ⌜ u < senders ⌝ }
         ensures { λ r. ⌜ r ≡ send self u a ⌝ }
     {
@@ -170,7 +170,7 @@ impl Bench {
     }
 
     // What unit u's answer makes of the bench.
-    fn settle(self, u: u32, a: Answer) -> Reply
+    fn settle(self, u: u32, a: Answer) -> LineAnswer
         requires { ⌜ u < senders ⌝ }
         ensures { λ r. ⌜ r ≡ settle self u a ⌝ }
     {
@@ -178,7 +178,7 @@ impl Bench {
         if tally::number(refusal) == 0 {
             let message = a.message;
             let kind = message.kind;
-            if contents::messages::is_empty(kind) {
+            if rules::messages::is_empty(kind) {
                 let decision = a.decision;
                 self.with_unit(u, a.unit).accepted(Sent::Nothing, decision)
             } else {
@@ -207,18 +207,18 @@ impl Bench {
     }
 
     // Plays an event.
-    pub fn answer(self, e: Event) -> Reply
+    pub fn answer(self, e: ScriptEvent) -> LineAnswer
         requires { ⌜ eventUnit e < senders ⌝ }
         requires { ⌜ self .kept ≤ places ⌝ }
         ensures { λ r. ⌜ r ≡ answer today self e ⌝ }
     {
         match e {
-            Event::Malformed => self.refused(Refusal::Line),
-            Event::Propose(u, v) => self.settle(u, self.unit_at(u).propose(v)),
-            Event::Deliver(u, k) => self.settle(u, self.delivery(u, k)),
-            Event::Cut(u, k) => self.settle(u, cut_short(self.delivery(u, k))),
-            Event::KeyOff(u) => self.settle(u, self.unit_at(u).key_off()),
-            Event::KeyOn(u) => self.settle(u, self.unit_at(u).key_on()),
+            ScriptEvent::Malformed => self.refused(Refusal::Line),
+            ScriptEvent::Propose(u, v) => self.settle(u, self.unit_at(u).propose(v)),
+            ScriptEvent::Deliver(u, k) => self.settle(u, self.delivery(u, k)),
+            ScriptEvent::Cut(u, k) => self.settle(u, cut_short(self.delivery(u, k))),
+            ScriptEvent::KeyOff(u) => self.settle(u, self.unit_at(u).key_off()),
+            ScriptEvent::KeyOn(u) => self.settle(u, self.unit_at(u).key_on()),
         }
     }
 }

@@ -1,12 +1,12 @@
 // The event of a line.
-use super::Event;
-use super::Number;
-use super::Pair;
 use super::numbers;
 use super::parts;
+use script::Number;
+use script::Pair;
+use script::ScriptEvent;
 ghost use mathlib.Core.Path.{_≡_};
-ghost use Rattle.bench_script.specs.Parts.{comma, parted};
-ghost use Rattle.bench_script.specs.Script.{oneOf, twoOf, unitBelow, pairBelow, byLetter, eventLetter, eventOf};
+ghost use Rattle.script.specs.Parts.{comma, parted};
+ghost use Rattle.script.specs.Script.{oneOf, twoOf, unitBelow, pairBelow, byLetter, eventLetter, eventOf};
 
 // A unit number of n or more is malformed.
 fn unit_below(n: u8, a: Number) -> Number
@@ -54,60 +54,60 @@ fn pair_of(n: u8, rest: &[u8]) -> Pair
 }
 
 // The script letter decides the event.
-fn by_letter(n: u8, letter: u8, rest: &[u8]) -> Event
+fn by_letter(n: u8, letter: u8, rest: &[u8]) -> ScriptEvent
     ensures { λ r. ⌜ r ≡ byLetter n letter (parted comma (now (rest .entry))) ⌝ }
 {
     match letter {
         b'P' => match pair_of(n, rest) {
-            Pair::Are(u, v) => Event::Propose(u, v),
-            Pair::Malformed => Event::Malformed,
+            Pair::Are(u, v) => ScriptEvent::Propose(u, v),
+            Pair::Malformed => ScriptEvent::Malformed,
         },
         b'D' => match pair_of(n, rest) {
-            Pair::Are(u, k) => Event::Deliver(u, k),
-            Pair::Malformed => Event::Malformed,
+            Pair::Are(u, k) => ScriptEvent::Deliver(u, k),
+            Pair::Malformed => ScriptEvent::Malformed,
         },
         b'W' => match pair_of(n, rest) {
-            Pair::Are(u, k) => Event::Cut(u, k),
-            Pair::Malformed => Event::Malformed,
+            Pair::Are(u, k) => ScriptEvent::Cut(u, k),
+            Pair::Malformed => ScriptEvent::Malformed,
         },
         b'K' => match unit_of(n, rest) {
-            Number::Is(u) => Event::KeyOff(u),
-            Number::Malformed => Event::Malformed,
+            Number::Is(u) => ScriptEvent::KeyOff(u),
+            Number::Malformed => ScriptEvent::Malformed,
         },
         b'U' => match unit_of(n, rest) {
-            Number::Is(u) => Event::KeyOn(u),
-            Number::Malformed => Event::Malformed,
+            Number::Is(u) => ScriptEvent::KeyOn(u),
+            Number::Malformed => ScriptEvent::Malformed,
         },
-        _ => Event::Malformed,
+        _ => ScriptEvent::Malformed,
     }
 }
 
 pub const QUESTION_MARK: u8 = b'?';
 
 // The letter of an event, as a listing shows it.
-pub fn letter_of(e: Event) -> u8
+pub fn letter_of(e: ScriptEvent) -> u8
     ensures { λ r. ⌜ r ≡ eventLetter e ⌝ }
 {
     match e {
-        Event::Malformed => QUESTION_MARK,
-        Event::Propose(_, _) => b'P',
-        Event::Deliver(_, _) => b'D',
-        Event::Cut(_, _) => b'W',
-        Event::KeyOff(_) => b'K',
-        Event::KeyOn(_) => b'U',
+        ScriptEvent::Malformed => QUESTION_MARK,
+        ScriptEvent::Propose(_, _) => b'P',
+        ScriptEvent::Deliver(_, _) => b'D',
+        ScriptEvent::Cut(_, _) => b'W',
+        ScriptEvent::KeyOff(_) => b'K',
+        ScriptEvent::KeyOn(_) => b'U',
     }
 }
 
 // A line's event, without its byte 10.
-pub fn event(n: u8, line: &[u8]) -> Event
+pub fn event(n: u8, line: &[u8]) -> ScriptEvent
     ensures { λ r. ⌜ r ≡ eventOf n (now (line .entry)) ⌝ }
 {
     if line.len() < 2 {
-        return Event::Malformed;
+        return ScriptEvent::Malformed;
     }
     if line[1] == parts::COMMA {
         by_letter(n, line[0], &line[2..])
     } else {
-        Event::Malformed
+        ScriptEvent::Malformed
     }
 }

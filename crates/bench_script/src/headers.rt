@@ -1,16 +1,15 @@
 // The header of a script.
-use super::Header;
-use super::HeaderRead;
-use super::Pair;
 use super::numbers;
 use super::parts;
-use codec::EngineRead;
-use codec::codes;
+use formats::EngineRead;
+use script::Header;
+use script::HeaderRead;
+use script::Pair;
 use tally::Engine;
 use tally::limits;
 ghost use mathlib.Core.Path.{_≡_};
 ghost use mathlib.Core.Bool.{true};
-ghost use Rattle.bench_script.specs.Script.{emptyEngine, engineField, inRanges, headerWith, withNumbers, headerOf};
+ghost use Rattle.script.specs.Script.{emptyEngine, engineField, inRanges, headerWith, withNumbers, headerOf};
 
 // An empty engine field means B.
 fn empty_engine(n: u32) -> Engine

@@ -1,14 +1,14 @@
 // The numbers of a script.
-use super::Number;
-use super::Pair;
 use super::parts;
+use script::Number;
+use script::Pair;
 ghost use mathlib.Core.Path.{_≡_};
 ghost use mathlib.Core.Bool.{true};
 ghost use Prim.Native.Nat.{_≤_};
 ghost use lib.ListN.{length};
-ghost use Rattle.bench_script.specs.Numbers.{maxDigits, isDigit, allDigits, leadingZero, valueFrom, readNumber};
-ghost use Rattle.bench_script.specs.Parts.{comma, parted};
-ghost use Rattle.bench_script.specs.Script.{both, oneOf, twoOf};
+ghost use Rattle.script.specs.Numbers.{maxDigits, isDigit, allDigits, leadingZero, valueFrom, readNumber};
+ghost use Rattle.script.specs.Parts.{comma, parted};
+ghost use Rattle.script.specs.Script.{both, oneOf, twoOf};
 
 pub const MAX_DIGITS: usize = 10;
 

@@ -1,6 +1,6 @@
 // Bytes in parts.
 ghost use mathlib.Core.Path.{_≡_};
-ghost use Rattle.bench_script.specs.Parts.{before};
+ghost use Rattle.script.specs.InnerParts.{before};
 
 pub const NEWLINE: u8 = 10;
 

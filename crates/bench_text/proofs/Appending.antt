@@ -7,7 +7,7 @@ use native.Mathlib.Omega.{arith}
 use native.Mathlib.Numerals.{add-one}
 use lib.ListN.{length, set, take, getD, length-append}
 use lib.Seq.{sets, take-suc, take-all}
-use Rattle.bench_text.specs.Text.{Puts}
+use Rattle.bench_text.specs.InnerText.{Puts}
 
 pub sets-append : (l : List ℕ) (i : ℕ) (a b : List ℕ) → sets (sets l i a) (i + length a) b ≡ sets l i (a ++ b)
 sets-append l i [] b = rw add-zero

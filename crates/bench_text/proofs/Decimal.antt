@@ -8,8 +8,8 @@ use native.Mathlib.Omega.{arith}
 use borrow.Author.Tests.{le-leb, lt-leb, ne-eqb}
 use lib.ListN.{length, getD, length-append, List·getD-append}
 use Rattle.contents.proofs.Tests.{both-true}
-use Rattle.bench_script.specs.Numbers.{digitZero, digitNine, maxDigits, maxNumber, isDigit, allDigits, leadingZero, valueFrom, isNumber, readNumber}
-use Rattle.bench_script.specs.declared.Number.{Number}
+use Rattle.script.specs.Numbers.{digitZero, digitNine, maxDigits, maxNumber, isDigit, allDigits, leadingZero, valueFrom, isNumber, readNumber}
+use Rattle.script.specs.declared.Number.{Number}
 use Rattle.bench_text.specs.Text.{digits, decimal}
 use Rattle.bench_text.proofs.Digits.{few, many, lower, digits-short}
 

@@ -8,7 +8,7 @@ use native.Mathlib.Omega.{arith}
 use lib.Dec.{ltb}
 use borrow.Author.Tests.{lt-ltb, le-ltb}
 use lib.ListN.{length, length-append}
-use Rattle.bench_script.specs.Numbers.{digitZero}
+use Rattle.script.specs.Numbers.{digitZero}
 use Rattle.bench_text.specs.Text.{digits}
 
 -- a digit alone, and a last digit

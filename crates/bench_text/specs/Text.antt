@@ -1,14 +1,11 @@
 -- The text of a listing's lines. Assumes nothing.
 use Prim.Native.Nat.{ℕ, zero, suc, _+_, _/_, _%_}
-use mathlib.Core.Path.{_≡_}
 use mathlib.Core.Bool.{cond}
 use mathlib.Core.List.{List, [], _∷_, _++_}
 use lib.Dec.{ltb}
-use lib.ListN.{length}
-use lib.Seq.{sets}
-use Rattle.bench_script.specs.Numbers.{digitZero, maxDigits}
-use Rattle.bench_script.specs.Parts.{comma, newline}
-use Rattle.bench_text.specs.declared.Row.{Row}
+use Rattle.script.specs.Numbers.{digitZero, maxDigits}
+use Rattle.script.specs.Parts.{comma, newline}
+use Rattle.bench_text.specs.declared.ListingLine.{ListingLine}
 use Rattle.bench_text.specs.declared.Shown.{Shown}
 
 -- n in decimal, in at most k digits
@@ -32,21 +29,21 @@ unfoldable pub fieldText : Shown → ℕ → List ℕ
 fieldText s b = shownText s ++ (b ∷ [])
 
 -- fields parted by commas, and byte 10
-abbrev pub lineText : List Shown → List ℕ
-lineText [] = newline ∷ []
-lineText (s ∷ []) = fieldText s newline
-lineText (s ∷ t ∷ ss) = fieldText s comma ++ lineText (t ∷ ss)
+abbrev pub fieldsText : List Shown → List ℕ
+fieldsText [] = newline ∷ []
+fieldsText (s ∷ []) = fieldText s newline
+fieldsText (s ∷ t ∷ ss) = fieldText s comma ++ fieldsText (t ∷ ss)
 
 -- the header with its letter
 unfoldable pub headerText : ℕ → ℕ → ℕ → List ℕ
-headerText letter n entry = lineText (Shown.Letter letter ∷ Shown.Number n ∷ Shown.Number entry ∷ [])
+headerText letter n entry = fieldsText (Shown.Letter letter ∷ Shown.Number n ∷ Shown.Number entry ∷ [])
 
 -- index, letter, unit, number, message number sent or -, decision or -
-abbrev pub rowFields : Row → List Shown
-rowFields r = Shown.Number (r .index) ∷ Shown.Letter (r .letter) ∷ r .unit ∷ Shown.Number (r .number) ∷ r .sent ∷ r .decision ∷ []
+abbrev pub lineFields : ListingLine → List Shown
+lineFields r = Shown.Number (r .index) ∷ Shown.Letter (r .letter) ∷ r .unit ∷ Shown.Number (r .number) ∷ r .sent ∷ r .decision ∷ []
 
-unfoldable pub rowText : Row → List ℕ
-rowText r = lineText (rowFields r)
+unfoldable pub lineText : ListingLine → List ℕ
+lineText r = fieldsText (lineFields r)
 
 -- the bytes e, n, d and a comma
 abbrev pub endPrefix : List ℕ
@@ -54,18 +51,4 @@ endPrefix = 101 ∷ 110 ∷ 100 ∷ comma ∷ []
 
 -- the final line: event lines and messages kept
 unfoldable pub endText : ℕ → ℕ → List ℕ
-endText events kept = endPrefix ++ lineText (Shown.Number events ∷ Shown.Number kept ∷ [])
-
--- ---- what inner functions promise
-
--- two or three fields of a line, and the byte after them
-unfoldable pub twoText : Shown → Shown → ℕ → List ℕ
-twoText a b stop = fieldText a comma ++ fieldText b stop
-
-unfoldable pub threeText : Shown → Shown → Shown → ℕ → List ℕ
-threeText a b c stop = fieldText a comma ++ twoText b c stop
-
--- ys is xs with the text from place at on, and r is where it ends
-pub record Puts (xs : List ℕ) (at : ℕ) (text : List ℕ) (ys : List ℕ) (r : ℕ) : Type 0 where
-  pub bytes : ys ≡ sets xs at text
-  pub ends : r ≡ at + length text
+endText events kept = endPrefix ++ fieldsText (Shown.Number events ∷ Shown.Number kept ∷ [])

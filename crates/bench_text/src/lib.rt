@@ -4,7 +4,8 @@ use bench_script::parts;
 ghost use Prim.Native.Nat.{_+_, _≤_, _<_, _^_};
 ghost use mathlib.Core.List.{[], _∷_};
 ghost use lib.ListN.{length};
-ghost use Rattle.bench_text.specs.Text.{digits, decimal, shownText, fieldText, twoText, threeText, headerText, rowText, endText, Puts};
+ghost use Rattle.bench_text.specs.Text.{digits, decimal, shownText, fieldText, headerText, lineText, endText};
+ghost use Rattle.bench_text.specs.InnerText.{twoText, threeText, Puts};
 
 // How the final line begins.
 pub const END: [u8; 4] = *b"end,";
@@ -17,7 +18,7 @@ pub enum Shown {
 }
 
 // An event's line.
-pub struct Row {
+pub struct ListingLine {
     pub index: u32,
     pub letter: u8,
     pub unit: Shown,
@@ -107,25 +108,25 @@ pub fn put_header(out: &mut [u8], at: usize, letter: u8, n: u32, entry: u32) -> 
     )
 }
 
-pub fn put_row(out: &mut [u8], at: usize, row: Row) -> usize
-    requires { ⌜ at + length (rowText row) ≤ length (now out) ⌝ }
-    ensures { λ r. ⌜ Puts (now (out .entry)) at (rowText row) (now (out .exit)) r ⌝ }
+pub fn put_line(out: &mut [u8], at: usize, line: ListingLine) -> usize
+    requires { ⌜ at + length (lineText line) ≤ length (now out) ⌝ }
+    ensures { λ r. ⌜ Puts (now (out .entry)) at (lineText line) (now (out .exit)) r ⌝ }
 {
-    let unit = row.unit;
-    let sent = row.sent;
-    let decision = row.decision;
+    let unit = line.unit;
+    let sent = line.sent;
+    let decision = line.decision;
     let p = put_three(
         out,
         at,
-        Shown::Number(row.index),
-        Shown::Letter(row.letter),
+        Shown::Number(line.index),
+        Shown::Letter(line.letter),
         unit,
         parts::COMMA,
     );
     put_three(
         out,
         p,
-        Shown::Number(row.number),
+        Shown::Number(line.number),
         sent,
         decision,
         parts::NEWLINE,

@@ -1,11 +1,10 @@
 // The 152 bytes of an image: those of a log, then two tallies.
-use super::EngineRead;
-use super::StateRead;
-use super::codes;
 use super::logs;
 use super::numbers;
 use contents::Log;
 use contents::State;
+use formats::EngineRead;
+use formats::StateRead;
 use tally::Cell;
 use tally::Engine;
 use tally::Estimate;
@@ -21,12 +20,12 @@ ghost use Rattle.tally.specs.Tally.{noMarks};
 ghost use Rattle.tally.specs.declared.Estimate.the-variants.{Blank};
 ghost use Rattle.contents.specs.Estimates.{isBlank};
 ghost use Rattle.contents.specs.Images.{every, placeOk, placesOk, tallyOk, imageOk, fits};
-ghost use Rattle.codec.specs.Codes.{codeOf, estimateOf};
-ghost use Rattle.codec.specs.Numbers.{numAt, total, unpack, packInto};
-ghost use Rattle.codec.specs.Formats.{stored};
-ghost use Rattle.codec.specs.Images.{cellOf, cellCode, cellWidths, tallyWidths, tallyNumbers, withTallies, imageFormat, readImage};
-ghost use Rattle.codec.specs.Images.{tallyAt, checksAt, secondsAt, fitState, heldFrom, asMarked, tallyFrom};
-ghost use Rattle.codec.specs.Images.{stateOver, tallyOver, imageOver, inImage};
+ghost use Rattle.formats.specs.Codes.{codeOf, estimateOf};
+ghost use Rattle.formats.specs.Numbers.{numAt, total, unpack};
+ghost use Rattle.formats.specs.InnerNumbers.{packInto};
+ghost use Rattle.formats.specs.Formats.{stored};
+ghost use Rattle.formats.specs.Images.{cellOf, cellCode, cellWidths, tallyWidths, tallyNumbers, withTallies, imageFormat, readImage};
+ghost use Rattle.formats.specs.InnerImages.{tallyAt, checksAt, secondsAt, fitState, heldFrom, asMarked, tallyFrom, stateOver, tallyOver, imageOver, inImage};
 
 // Where the tallies stand, and where a tally's estimates do.
 const AT_CHECKS: usize = limits::LOG_SIZE;
@@ -97,7 +96,7 @@ fn place_at(s: &[u8], at: usize, split: bool, n: u8, sender: u8, marked: bool) -
 {
     if marked {
         let e = codes::estimate_of(numbers::be32(s, at));
-        contents::images::place_ok(split, n, sender, marked, e)
+        rules::images::place_ok(split, n, sender, marked, e)
     } else {
         is_blank_at(s, at)
     }
@@ -140,16 +139,16 @@ fn fits_at(s: &[u8], front: Log, log: Log) -> bool
     let second = state.second;
     let logged_settings = log.settings;
     let logged = log.state;
-    let sound = contents::logs::well_formed(front);
-    let allowed = contents::images::checks_allowed(engine, second, numbers::be16(s, AT_CHECKS));
-    let fit = contents::images::same_settings(settings, logged_settings)
-        & contents::images::state_fits(state, logged);
+    let sound = rules::logs::well_formed(front);
+    let allowed = rules::images::checks_allowed(engine, second, numbers::be16(s, AT_CHECKS));
+    let fit = rules::images::same_settings(settings, logged_settings)
+        & rules::images::state_fits(state, logged);
     sound
         & tally_ok_at(s, AT_CHECKS, false, engine, settings.n)
         & tally_ok_at(
             s,
             AT_SECONDS,
-            contents::estimates::is_b(engine),
+            rules::estimates::is_b(engine),
             engine,
             settings.n,
         )

@@ -1,41 +1,5 @@
 // Logs, images and messages as bytes. A wrong length is refused first, then malformed contents.
-pub mod codes;
 pub mod images;
 pub mod logs;
 pub mod messages;
 mod numbers;
-
-use contents::Kind;
-use contents::Log;
-use contents::Message;
-use contents::State;
-use tally::Engine;
-use tally::Refusal;
-
-// What a letter stands for.
-pub enum EngineRead {
-    Is(Engine),
-    Unknown,
-}
-
-pub enum KindRead {
-    Is(Kind),
-    Unknown,
-}
-
-// What reading finds.
-pub enum LogRead {
-    Read(Log),
-    Refused(Refusal),
-}
-
-pub enum MessageRead {
-    Read(Message),
-    Refused(Refusal),
-}
-
-// The state of an image that fits its log.
-pub enum StateRead {
-    Fits(State),
-    Unfit,
-}

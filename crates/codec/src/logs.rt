@@ -1,11 +1,10 @@
 // The 20 bytes of a log.
-use super::EngineRead;
-use super::LogRead;
-use super::codes;
 use super::numbers;
 use contents::Log;
 use contents::Settings;
 use contents::State;
+use formats::EngineRead;
+use formats::LogRead;
 use tally::Engine;
 use tally::Estimate;
 use tally::Refusal;
@@ -18,11 +17,12 @@ ghost use Prim.Native.Nat.{_+_, _≤_};
 ghost use lib.ListN.{length};
 ghost use Rattle.tally.specs.Limits.{today, logSize};
 ghost use Rattle.tally.specs.Refusal.{numberOf};
-ghost use Rattle.codec.specs.Numbers.{total, packInto};
-ghost use Rattle.codec.specs.Codes.{codeOf};
-ghost use Rattle.codec.specs.Formats.{withZero, wrote, checked, stored};
-ghost use Rattle.codec.specs.Logs.{settingsWidths, stateWidths, stateNumbers, roundAt};
-ghost use Rattle.codec.specs.Logs.{logWidths, logZero, engineAt, logOf, logRow, logNumbers, logFormat, logReading, readLog, writeLog};
+ghost use Rattle.formats.specs.Numbers.{total};
+ghost use Rattle.formats.specs.InnerNumbers.{packInto};
+ghost use Rattle.formats.specs.Codes.{codeOf};
+ghost use Rattle.formats.specs.Formats.{withZero, wrote, checked, stored};
+ghost use Rattle.formats.specs.InnerLogs.{settingsWidths, stateWidths, stateNumbers, roundAt, logNumbersIn, engineAt};
+ghost use Rattle.formats.specs.Logs.{logWidths, logZero, logOf, logNumbers, logFormat, logReading, readLog, writeLog};
 
 // Where the fields stand, after the engine letter.
 const AT_N: usize = 1;
@@ -55,7 +55,7 @@ pub(crate) fn engine_at(s: &[u8]) -> EngineRead
 // The contents that the bytes hold, at an engine.
 pub(crate) fn log_at(engine: Engine, s: &[u8]) -> Log
     requires { ⌜ logSize today ≤ length (now s) ⌝ }
-    ensures { λ r. ⌜ r ≡ logOf engine (logRow today (now (s .entry))) ⌝ }
+    ensures { λ r. ⌜ r ≡ logOf engine (logNumbersIn today (now (s .entry))) ⌝ }
 {
     Log {
         settings: Settings {
@@ -76,7 +76,7 @@ pub(crate) fn log_at(engine: Engine, s: &[u8]) -> Log
 fn checked_log(log: Log) -> LogRead
     ensures { λ r. ⌜ logReading r ≡ checked (logFormat today) (some log) ⌝ }
 {
-    if contents::logs::well_formed(log) {
+    if rules::logs::well_formed(log) {
         LogRead::Read(log)
     } else {
         LogRead::Refused(Refusal::Log)
@@ -164,7 +164,7 @@ pub fn write_log(log: Log, out: &mut [u8]) -> Refusal
     if out.len() != limits::LOG_SIZE {
         return Refusal::Length;
     }
-    if !contents::logs::well_formed(log) {
+    if !rules::logs::well_formed(log) {
         return Refusal::Log;
     }
     put_log(log, out);

@@ -1,11 +1,10 @@
 // The 18 bytes of a message.
-use super::EngineRead;
-use super::KindRead;
-use super::MessageRead;
-use super::codes;
 use super::numbers;
 use contents::Kind;
 use contents::Message;
+use formats::EngineRead;
+use formats::KindRead;
+use formats::MessageRead;
 use tally::Engine;
 use tally::Refusal;
 use tally::limits;
@@ -14,10 +13,11 @@ ghost use mathlib.Core.Option.{some};
 ghost use lib.ListN.{length};
 ghost use Rattle.tally.specs.Limits.{today, messageSize};
 ghost use Rattle.tally.specs.Refusal.{numberOf};
-ghost use Rattle.codec.specs.Numbers.{packInto};
-ghost use Rattle.codec.specs.Formats.{withZero, wrote, checked, stored};
-ghost use Rattle.codec.specs.Messages.{messageWidths, messageZero, messageOf, messageRow, messageNumbers, messageFormat, messageReading, lettersRead};
-ghost use Rattle.codec.specs.Messages.{cleared, readMessage, writeMessage};
+ghost use Rattle.formats.specs.InnerNumbers.{packInto};
+ghost use Rattle.formats.specs.Formats.{withZero, wrote, checked, stored};
+ghost use Rattle.formats.specs.Messages.{messageWidths, messageZero, messageOf, messageNumbers, messageFormat, messageReading, lettersRead, cleared};
+ghost use Rattle.formats.specs.Messages.{readMessage, writeMessage};
+ghost use Rattle.formats.specs.InnerMessages.{messageNumbersIn};
 
 // Where the fields stand, after the letters of kind and engine.
 const AT_N: usize = 2;
@@ -39,7 +39,7 @@ const AT_PROPOSAL: usize = AT_ESTIMATE + 4;
 // The contents that the bytes hold, at a kind and an engine.
 fn message_at(kind: Kind, engine: Engine, s: &[u8]) -> Message
     requires { ⌜ length (now s) ≡ messageSize today ⌝ }
-    ensures { λ r. ⌜ r ≡ messageOf kind engine (messageRow today (now (s .entry))) ⌝ }
+    ensures { λ r. ⌜ r ≡ messageOf kind engine (messageNumbersIn today (now (s .entry))) ⌝ }
 {
     Message {
         kind,
@@ -57,7 +57,7 @@ fn message_at(kind: Kind, engine: Engine, s: &[u8]) -> Message
 fn checked_message(m: Message) -> MessageRead
     ensures { λ r. ⌜ messageReading r ≡ checked (messageFormat today) (some m) ⌝ }
 {
-    if contents::messages::well_formed(m) {
+    if rules::messages::well_formed(m) {
         MessageRead::Read(m)
     } else {
         MessageRead::Refused(Refusal::Message)
@@ -66,7 +66,7 @@ fn checked_message(m: Message) -> MessageRead
 
 fn message_from(kind: KindRead, engine: EngineRead, s: &[u8]) -> MessageRead
     requires { ⌜ length (now s) ≡ messageSize today ⌝ }
-    ensures { λ r. ⌜ messageReading r ≡ checked (messageFormat today) (lettersRead kind engine (messageRow today (now (s .entry)))) ⌝ }
+    ensures { λ r. ⌜ messageReading r ≡ checked (messageFormat today) (lettersRead kind engine (messageNumbersIn today (now (s .entry)))) ⌝ }
 {
     match kind {
         KindRead::Is(k) => match engine {
@@ -145,7 +145,7 @@ pub fn write_message(m: Message, out: &mut [u8]) -> Refusal
     if out.len() != limits::MESSAGE_SIZE {
         return Refusal::Length;
     }
-    if !contents::messages::well_formed(m) {
+    if !rules::messages::well_formed(m) {
         return Refusal::Message;
     }
     put_message(m, out);

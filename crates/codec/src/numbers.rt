@@ -6,7 +6,8 @@ ghost use Prim.Native.Nat.{_+_, _≤_};
 ghost use lib.ListN.{length};
 ghost use lib.Seq.{sets};
 ghost use Rattle.tally.specs.Limits.{today};
-ghost use Rattle.codec.specs.Numbers.{numAt, bytesOf, packInto};
+ghost use Rattle.formats.specs.Numbers.{numAt, bytesOf};
+ghost use Rattle.formats.specs.InnerNumbers.{packInto};
 
 pub(crate) fn be8(s: &[u8], at: usize) -> u8
     requires { ⌜ at + 1 ≤ length (now s) ⌝ }

@@ -5,9 +5,9 @@ use Rattle.tally.specs.Limits.{Limits}
 use Rattle.tally.specs.declared.Estimate.the-variants.{Blank}
 use Rattle.tally.specs.declared.Refusal.{Refusal}
 use Rattle.contents.specs.declared.Message.{Message}
-use Rattle.consensus.specs.Methods.{proposeRows, propose, deliverRows, deliver}
-use Rattle.consensus.specs.Step.{withCurrent, logWrite, atRound, sendFirst, proposed, takeFirst, takeSecond}
-use Rattle.consensus.specs.Step.{checksWith, close, secondsWith, onKind, skip, received}
+use Rattle.consensus.specs.Methods.{proposeConditions, propose, deliverConditions, deliver}
+use Rattle.consensus.specs.Step.{withCurrent, logWrite, atRound, sendFirst, proposed, takeFirst, takeSecond, checksWith, close, secondsWith, onKind, skip}
+use Rattle.consensus.specs.Step.{received}
 use Rattle.consensus.specs.Units.{unitLog, unitImage}
 use Rattle.consensus.specs.declared.Answer.{Answer}
 use Rattle.consensus.specs.declared.Unit as U
@@ -41,12 +41,12 @@ plain-proposed u v = record { none = refl; power = refl }
 pub propose-power : (l : Limits) (u : U.Unit) (v : ℕ) → propose l u v .unit .power ≡ u .power
 unfolding propose
 propose-power l u v =
-    by-unless (λ a. a .unit .power ≡ u .power) (proposeRows l u v) u (proposed u v) (plain-proposed u v .power) (λ k. refl)
+    by-unless (λ a. a .unit .power ≡ u .power) (proposeConditions l u v) u (proposed u v) (plain-proposed u v .power) (λ k. refl)
 
 pub deliver-power : (l : Limits) (u : U.Unit) (m : Message) → deliver l u m .unit .power ≡ u .power
 unfolding deliver
 deliver-power l u m =
-    by-unless (λ a. a .unit .power ≡ u .power) (deliverRows l u m) u (received u m) (plain-received u m .power) (λ k. refl)
+    by-unless (λ a. a .unit .power ≡ u .power) (deliverConditions l u m) u (received u m) (plain-received u m .power) (λ k. refl)
 
 -- a proposal writes no log and decides nothing
 abbrev pub Keeps : U.Unit → Answer → Type 0
@@ -58,10 +58,10 @@ proposed-keeps u v = (refl, refl)
 
 pub propose-keeps : (l : Limits) (u : U.Unit) (v : ℕ) → Keeps u (propose l u v)
 unfolding propose
-propose-keeps l u v = by-unless (Keeps u) (proposeRows l u v) u (proposed u v) (proposed-keeps u v) (λ k. (refl, refl))
+propose-keeps l u v = by-unless (Keeps u) (proposeConditions l u v) u (proposed u v) (proposed-keeps u v) (λ k. (refl, refl))
 
 -- and leaves all of an image but its state
 pub propose-image : (l : Limits) (u : U.Unit) (v : ℕ) → unitImage (propose l u v .unit) ≡ unitImage (withCurrent u (propose l u v .unit .current))
 unfolding propose proposed sendFirst
 propose-image l u v =
-    by-unless (λ a. unitImage (a .unit) ≡ unitImage (withCurrent u (a .unit .current))) (proposeRows l u v) u (proposed u v) refl (λ k. refl)
+    by-unless (λ a. unitImage (a .unit) ≡ unitImage (withCurrent u (a .unit .current))) (proposeConditions l u v) u (proposed u v) refl (λ k. refl)

@@ -18,11 +18,9 @@ use Rattle.contents.specs.declared.Kind.the-variants.{Empty, First, Check, Seco
 use Rattle.contents.specs.declared.Message.{Message}
 use Rattle.contents.proofs.Tests.{both-true}
 use Rattle.consensus.specs.Methods.{refuses, unless}
-use Rattle.consensus.specs.Rows.{Row, rowNumber, firstOf, NoneHolds}
-use Rattle.consensus.specs.Step.{quiet, withChecks, withSeconds}
-use Rattle.consensus.specs.Step.{takeFirst, onFirst, isFull, takeSecond, countCheck, checksWith, onCheck}
-use Rattle.consensus.specs.Step.{atRound, close, countSecond, secondsWith, onSecond}
-use Rattle.consensus.specs.Step.{onKind, skip, caughtUp, received}
+use Rattle.consensus.specs.Conditions.{Condition, conditionNumber, firstOf, NoneHolds}
+use Rattle.consensus.specs.Step.{quiet, withChecks, withSeconds, takeFirst, onFirst, isFull, takeSecond, countCheck, checksWith, onCheck, atRound, close}
+use Rattle.consensus.specs.Step.{countSecond, secondsWith, onSecond, onKind, skip, caughtUp, received}
 use Rattle.consensus.specs.declared.Answer.{Answer}
 use Rattle.consensus.specs.declared.Unit as U
 
@@ -73,16 +71,16 @@ module _ (P : Answer → Type 0) where
       go le false e = at (omega (arith, ltb-false (u .current .round) (m .round) e))
 
   -- a method answers, or refuses
-  pub by-unless : (rows : List Row) (u : U.Unit) (a : Answer) → P a → ((k : Refusal) → P (refuses u k)) → P (unless rows u a)
+  pub by-unless : (cs : List Condition) (u : U.Unit) (a : Answer) → P a → ((k : Refusal) → P (refuses u k)) → P (unless cs u a)
   unfolding unless
-  by-unless rows u a answered refused = by-test (eqb (numberOf (firstOf rows)) 0) (λ e. answered) (λ e. refused (firstOf rows))
+  by-unless cs u a answered refused = by-test (eqb (numberOf (firstOf cs)) 0) (λ e. answered) (λ e. refused (firstOf cs))
 
-  -- rows whose number is not 0, of which one refuses or none holds
-  pub by-rows : (rows : List Row) (u : U.Unit) (a : Answer) → Each (λ r. eqb (rowNumber r) 0 ≡ false) rows → ((k : Refusal) → P (refuses u k))
-      → (NoneHolds rows → P a) → P (unless rows u a)
+  -- conditions whose number is not 0, of which one refuses or none holds
+  pub by-conditions : (cs : List Condition) (u : U.Unit) (a : Answer) → Each (λ r. eqb (conditionNumber r) 0 ≡ false) cs → ((k : Refusal) → P (refuses u k))
+      → (NoneHolds cs → P a) → P (unless cs u a)
   unfolding unless firstOf
-  by-rows [] u a each refused accepted = accepted tt
-  by-rows (r ∷ rs) u a each refused accepted = go (r .holds) refl (by-rows rs u a (each .1) refused)
+  by-conditions [] u a each refused accepted = accepted tt
+  by-conditions (r ∷ rs) u a each refused accepted = go (r .holds) refl (by-conditions rs u a (each .1) refused)
     where
       go : (b : Bool) → r .holds ≡ b → ((NoneHolds rs → P a) → P (unless rs u a))
           → P (cond (eqb (numberOf (cond b (r .refusal) (firstOf rs))) 0) a (refuses u (cond b (r .refusal) (firstOf rs))))

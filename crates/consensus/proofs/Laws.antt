@@ -21,11 +21,10 @@ use Rattle.contents.specs.declared.Kind.the-variants.{Empty, First, Check, Seco
 use Rattle.contents.specs.declared.Message.{Message}
 use Rattle.contents.specs.declared.Settings.{Settings}
 use Rattle.contents.specs.declared.State.{State}
-use Rattle.consensus.specs.Methods.{refuses, unless, propose, proposeRows, deliver, deliverRows, keyOff, keyOn}
-use Rattle.consensus.specs.Rows.{Row, firstOf, NoneHolds}
-use Rattle.consensus.specs.Step.{says, logWrite, atRound, sendFirst, proposed, takeFirst, onFirst, isFull, takeSecond, countCheck, checksWith}
-use Rattle.consensus.specs.Step.{onCheck, decided, nextProposal, close, countSecond, secondsWith, onSecond, onKind, skip, caughtUp, received}
-use Rattle.consensus.specs.Step.{fresh, recovered}
+use Rattle.consensus.specs.Methods.{refuses, unless, propose, proposeConditions, deliver, deliverConditions, keyOff, keyOn}
+use Rattle.consensus.specs.Conditions.{Condition, firstOf, NoneHolds}
+use Rattle.consensus.specs.Step.{says, logWrite, atRound, sendFirst, proposed, takeFirst, onFirst, isFull, takeSecond, countCheck, checksWith, onCheck}
+use Rattle.consensus.specs.Step.{decided, nextProposal, close, countSecond, secondsWith, onSecond, onKind, skip, caughtUp, received, fresh, recovered}
 use Rattle.consensus.specs.Units.{downUnit, atLog}
 use Rattle.consensus.specs.declared.Answer.{Answer}
 use Rattle.consensus.specs.declared.Power.{Power}
@@ -189,23 +188,23 @@ decided-split = refl
 
 -- ---- the methods
 
-none-first : (rows : List Row) → NoneHolds rows → firstOf rows ≡ Refusal.None
+none-first : (cs : List Condition) → NoneHolds cs → firstOf cs ≡ Refusal.None
 unfolding firstOf
 none-first [] h = refl
 none-first (r ∷ rs) h = rw (h .0) (none-first rs (h .1))
 
-module _ (rows : List Row) (u : U.Unit) (a : Answer) where
-  unless-accepted : NoneHolds rows → unless rows u a ≡ a
+module _ (cs : List Condition) (u : U.Unit) (a : Answer) where
+  unless-accepted : NoneHolds cs → unless cs u a ≡ a
   unfolding unless
-  unless-accepted h = rw (none-first rows h)
+  unless-accepted h = rw (none-first cs h)
 
-pub propose-accepted : (l : Limits) (u : U.Unit) (v : ℕ) → NoneHolds (proposeRows l u v) → propose l u v ≡ proposed u v
+pub propose-accepted : (l : Limits) (u : U.Unit) (v : ℕ) → NoneHolds (proposeConditions l u v) → propose l u v ≡ proposed u v
 unfolding propose
-propose-accepted l u v h = unless-accepted (proposeRows l u v) u (proposed u v) h
+propose-accepted l u v h = unless-accepted (proposeConditions l u v) u (proposed u v) h
 
-pub deliver-accepted : (l : Limits) (u : U.Unit) (m : Message) → NoneHolds (deliverRows l u m) → deliver l u m ≡ received u m
+pub deliver-accepted : (l : Limits) (u : U.Unit) (m : Message) → NoneHolds (deliverConditions l u m) → deliver l u m ≡ received u m
 unfolding deliver
-deliver-accepted l u m h = unless-accepted (deliverRows l u m) u (received u m) h
+deliver-accepted l u m h = unless-accepted (deliverConditions l u m) u (received u m) h
 
 module _ (s : Settings) (logged now : State) (checks seconds : Tally) where
   -- key-off and key-on leave the log's contents and no marks

@@ -1,4 +1,4 @@
--- Rows in rising order of their numbers give the lowest number that holds. Assumes nothing.
+-- Conditions in rising order of their numbers give the lowest number that holds. Assumes nothing.
 use Prim.Native.Nat.{ℕ, _≤_, _<_}
 use mathlib.Core.Path.{_≡_, refl, sym, _∙_}
 use mathlib.Core.Bool.{Bool, true, false, cond}
@@ -7,24 +7,24 @@ use mathlib.Core.Logic.{inl, inr}
 use native.Mathlib.Omega.{arith}
 use Rattle.tally.specs.Refusal.{numberOf}
 use Rattle.tally.proofs.Never.{never}
-use Rattle.consensus.specs.Rows.{Row, rowNumber, firstOf, Holds, Lowest}
+use Rattle.consensus.specs.Conditions.{Condition, conditionNumber, firstOf, NumberHolds, Lowest}
 
 -- the numbers rise, from above k on
-abbrev pub Rising : ℕ → List Row → Type 0
+abbrev pub Rising : ℕ → List Condition → Type 0
 Rising k [] = Unit
-Rising k (r ∷ rs) = (k < rowNumber r) × Rising (rowNumber r) rs
+Rising k (r ∷ rs) = (k < conditionNumber r) × Rising (conditionNumber r) rs
 
--- a row that holds comes after k
-holds-above : (k j : ℕ) (rows : List Row) → Rising k rows → Holds j rows → k < j
+-- a condition that holds comes after k
+holds-above : (k j : ℕ) (cs : List Condition) → Rising k cs → NumberHolds j cs → k < j
 holds-above k j [] up h = absurd h
 holds-above k j (r ∷ rs) up (inl h) = omega (arith, up .0, h .0)
-holds-above k j (r ∷ rs) up (inr h) = omega (arith, up .0, holds-above (rowNumber r) j rs (up .1) h)
+holds-above k j (r ∷ rs) up (inr h) = omega (arith, up .0, holds-above (conditionNumber r) j rs (up .1) h)
 
-module _ (P : List Row → ℕ → Type 0) (empty : P [] 0)
-    (here : (r : Row) (rs : List Row) → r .holds ≡ true → P (r ∷ rs) (rowNumber r))
-    (later : (r : Row) (rs : List Row) → r .holds ≡ false → P rs (numberOf (firstOf rs)) → P (r ∷ rs) (numberOf (firstOf rs))) where
-  -- induction over the rows up to the first that holds
-  up-to-first : (rows : List Row) → P rows (numberOf (firstOf rows))
+module _ (P : List Condition → ℕ → Type 0) (empty : P [] 0)
+    (here : (r : Condition) (rs : List Condition) → r .holds ≡ true → P (r ∷ rs) (conditionNumber r))
+    (later : (r : Condition) (rs : List Condition) → r .holds ≡ false → P rs (numberOf (firstOf rs)) → P (r ∷ rs) (numberOf (firstOf rs))) where
+  -- induction over the conditions up to the first that holds
+  up-to-first : (cs : List Condition) → P cs (numberOf (firstOf cs))
   unfolding firstOf
   up-to-first [] = empty
   up-to-first (r ∷ rs) = go (r .holds) refl (up-to-first rs)
@@ -33,9 +33,9 @@ module _ (P : List Row → ℕ → Type 0) (empty : P [] 0)
       go true h ih = here r rs h
       go false h ih = later r rs h ih
 
-pub first-lowest : (rows : List Row) → Rising 0 rows → Lowest rows (numberOf (firstOf rows))
-first-lowest rows up =
-    up-to-first (λ rows k. (j : ℕ) → Rising j rows → Lowest rows k)
+pub first-lowest : (cs : List Condition) → Rising 0 cs → Lowest cs (numberOf (firstOf cs))
+first-lowest cs up =
+    up-to-first (λ cs k. (j : ℕ) → Rising j cs → Lowest cs k)
     (λ j up. record { accepted = λ e. tt; none = λ n. refl; refused = λ n. absurd (n refl); lowest = λ i h. absurd h })
     (λ r rs h j up.
     record {
@@ -45,20 +45,20 @@ first-lowest rows up =
       lowest = λ i x. first r rs i (up .1) x;
     })
     (λ r rs h ih j up.
-    let low = ih (rowNumber r) (up .1) in
+    let low = ih (conditionNumber r) (up .1) in
     record {
       accepted = λ e. (h, low .accepted e);
       none = λ n. low .none (n .1);
       refused = λ n. inr (low .refused n);
       lowest = λ i x. rest r rs h (low .lowest) i x;
     })
-    rows 0 up
+    cs 0 up
   where
-    first : (r : Row) (rs : List Row) (i : ℕ) → Rising (rowNumber r) rs → Holds i (r ∷ rs) → rowNumber r ≤ i
+    first : (r : Condition) (rs : List Condition) (i : ℕ) → Rising (conditionNumber r) rs → NumberHolds i (r ∷ rs) → conditionNumber r ≤ i
     first r rs i up (inl x) = omega (arith, x .0)
-    first r rs i up (inr x) = omega (arith, holds-above (rowNumber r) i rs up x)
+    first r rs i up (inr x) = omega (arith, holds-above (conditionNumber r) i rs up x)
 
-    rest : (r : Row) (rs : List Row) → r .holds ≡ false → ((i : ℕ) → Holds i rs → numberOf (firstOf rs) ≤ i) → (i : ℕ) → Holds i (r ∷ rs)
-        → numberOf (firstOf rs) ≤ i
+    rest : (r : Condition) (rs : List Condition) → r .holds ≡ false → ((i : ℕ) → NumberHolds i rs → numberOf (firstOf rs) ≤ i) → (i : ℕ)
+        → NumberHolds i (r ∷ rs) → numberOf (firstOf rs) ≤ i
     rest r rs h low i (inl x) = never (sym h ∙ x .1)
     rest r rs h low i (inr x) = low i x

@@ -71,15 +71,15 @@ states-same l g s f = record { logged = f; current = f; fit = fits-self s }
 -- ---- tallies
 
 -- what a marked place takes: a mileage or, where it is allowed, split
-abbrev pub Vote : Limits → Bool → Estimate → Type 0
-Vote l split e = (isMileage l e || (split && isSplit e)) ≡ true
+abbrev pub Takes : Limits → Bool → Estimate → Type 0
+Takes l split e = (isMileage l e || (split && isSplit e)) ≡ true
 
 -- the rules of every place
 abbrev pub Places : Limits → Bool → ℕ → Tally → Type 0
 Places l split n t = (s : ℕ) → s < senders → PlaceFacts l split n s (isMarked (t .marks) s) (placed t s)
 
 module _ (l : Limits) (split : Bool) (n : ℕ) where
-  pub places-mark : (t : Tally) (s : ℕ) (e : Estimate) → Typed t → Places l split n t → s < n → s < senders → Vote l split e
+  pub places-mark : (t : Tally) (s : ℕ) (e : Estimate) → Typed t → Places l split n t → s < n → s < senders → Takes l split e
       → Places l split n (mark t s e)
   unfolding mark
   places-mark t s e typed f below inside vote x b = at x b (eqb x s) refl
@@ -94,11 +94,11 @@ module _ (l : Limits) (split : Bool) (n : ℕ) where
           rw (mark-other (t .marks) s x apart, placed-other t s x e apart) (f x b)
 
 -- with what the types say
-pub record Tallied (l : Limits) (split : Bool) (s : Settings) (t : Tally) : Type 0 where
+pub record WholeTally (l : Limits) (split : Bool) (s : Settings) (t : Tally) : Type 0 where
   pub facts : TallyFacts l split (s .engine) (s .n) t
   pub typed : Typed t
 
-pub tallied-none : (l : Limits) (split : Bool) (s : Settings) → settingsOk s ≡ true → Tallied l split s noMarks
+pub tallied-none : (l : Limits) (split : Bool) (s : Settings) → settingsOk s ≡ true → WholeTally l split s noMarks
 unfolding noMarks ones
 tallied-none l split s ok =
     let low = numbers-facts (s .n) (s .unit) (s .entry) ok .n-low in
@@ -116,8 +116,8 @@ no-checks g e = or-true (isB g && isBlank e)
 pub record Parts (l : Limits) (u : U.Unit) : Type 0 where
   pub settings : settingsOk (u .settings) ≡ true
   pub states : States l (u .settings .engine) (u .logged) (u .current)
-  pub checks : Tallied l false (u .settings) (u .checks)
-  pub seconds : Tallied l (isB (u .settings .engine)) (u .settings) (u .seconds)
+  pub checks : WholeTally l false (u .settings) (u .checks)
+  pub seconds : WholeTally l (isB (u .settings .engine)) (u .settings) (u .seconds)
   pub unchecked : checksAllowed (u .settings .engine) (u .current .second) (u .checks .marks) ≡ true
 
 module _ (l : Limits) (u : U.Unit) where
@@ -165,7 +165,7 @@ round-fits : (i r : State) → stateFits i r ≡ true → r .round ≤ i .round
 round-fits i r h = go (state-fits i r h)
   where
     go : Fits i r → r .round ≤ i .round
-    go (inl above) = omega arith
+    go (inl above) = omega (arith, above .0)
     go (inr same) = omega (arith, same .0)
 
 -- ---- units without marks

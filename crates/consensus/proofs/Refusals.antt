@@ -20,8 +20,8 @@ use Rattle.contents.specs.declared.Kind.the-variants.{Empty, First, Check, Seco
 use Rattle.contents.specs.declared.Message.{Message}
 use Rattle.contents.proofs.Facts.{image-facts, log-facts}
 use Rattle.contents.proofs.Tests.{both-true}
-use Rattle.consensus.specs.Methods.{outOfRange, isSecond, closesLast, unless, proposeRows, propose, deliverRows, deliver}
-use Rattle.consensus.specs.Rows.{Row, firstOf}
+use Rattle.consensus.specs.Methods.{outOfRange, isSecond, closesLast, unless, proposeConditions, propose, deliverConditions, deliver}
+use Rattle.consensus.specs.Conditions.{Condition, firstOf}
 use Rattle.consensus.specs.Step.{isFull, secondsWith, onKind, proposed, received}
 use Rattle.consensus.specs.Units.{WellFormed}
 use Rattle.consensus.specs.declared.Answer.{Answer}
@@ -96,49 +96,49 @@ module _ (l : Limits) (u : U.Unit) (m : Message) where
 
 -- ---- the methods
 
-refused : (rows : List Row) (u : U.Unit) (a : Answer) (k : Refusal) → firstOf rows ≡ k → eqb (numberOf k) 0 ≡ false
-    → Refuses (numberOf k) u (unless rows u a)
+refused : (cs : List Condition) (u : U.Unit) (a : Answer) (k : Refusal) → firstOf cs ≡ k → eqb (numberOf k) 0 ≡ false
+    → Refuses (numberOf k) u (unless cs u a)
 unfolding unless
-refused rows u a k e some = rw (e, some) (record { number = refl; unit = refl; message = refl; decision = refl })
+refused cs u a k e some = rw (e, some) (record { number = refl; unit = refl; message = refl; decision = refl })
 
 module _ (l : Limits) (u : U.Unit) (v : ℕ) where
   pub propose-accepts : u .power ≡ Up → v ≤ l .maxMileage → propose l u v ≡ proposed u v
-  unfolding proposeRows outOfRange
+  unfolding proposeConditions outOfRange
   propose-accepts up h = propose-accepted l u v (rw up refl, (rw (le-leb v (l .maxMileage) h) refl, tt))
 
   pub propose-above : u .power ≡ Up → l .maxMileage < v → Refuses 6 u (propose l u v)
-  unfolding propose proposeRows outOfRange firstOf
-  propose-above up h = refused (proposeRows l u v) u _ Refusal.Mileage (rw (up, lt-leb v (l .maxMileage) h)) refl
+  unfolding propose proposeConditions outOfRange firstOf
+  propose-above up h = refused (proposeConditions l u v) u _ Refusal.Mileage (rw (up, lt-leb v (l .maxMileage) h)) refl
 
   pub propose-down : u .power ≡ Down → Refuses 9 u (propose l u v)
-  unfolding propose proposeRows firstOf
-  propose-down down = refused (proposeRows l u v) u _ Refusal.Power (rw down) refl
+  unfolding propose proposeConditions firstOf
+  propose-down down = refused (proposeConditions l u v) u _ Refusal.Power (rw down) refl
 
 -- in the order 4, 9, 5, 7
 module _ (l : Limits) (u : U.Unit) (m : Message) where
   pub deliver-malformed : messageOk l m ≡ false → Refuses 4 u (deliver l u m)
-  unfolding deliver deliverRows firstOf
-  deliver-malformed bad = refused (deliverRows l u m) u _ Refusal.Message (rw bad) refl
+  unfolding deliver deliverConditions firstOf
+  deliver-malformed bad = refused (deliverConditions l u m) u _ Refusal.Message (rw bad) refl
 
   module _ (ok : messageOk l m ≡ true) where
     pub deliver-down : u .power ≡ Down → Refuses 9 u (deliver l u m)
-    unfolding deliver deliverRows firstOf
-    deliver-down down = refused (deliverRows l u m) u _ Refusal.Power (rw (ok, down)) refl
+    unfolding deliver deliverConditions firstOf
+    deliver-down down = refused (deliverConditions l u m) u _ Refusal.Power (rw (ok, down)) refl
 
     module _ (up : u .power ≡ Up) where
       pub deliver-other : (Mine (u .settings) m → ⊥) → Refuses 5 u (deliver l u m)
-      unfolding deliver deliverRows firstOf
+      unfolding deliver deliverConditions firstOf
       deliver-other other =
-          refused (deliverRows l u m) u _ Refusal.Addressee (rw (ok, up, refuted _ (λ h. other (passes-mine (u .settings) m h)))) refl
+          refused (deliverConditions l u m) u _ Refusal.Addressee (rw (ok, up, refuted _ (λ h. other (passes-mine (u .settings) m h)))) refl
 
       module _ (mine : Mine (u .settings) m) where
         pub deliver-closing : Closing l u m → Refuses 7 u (deliver l u m)
-        unfolding deliver deliverRows firstOf
+        unfolding deliver deliverConditions firstOf
         deliver-closing c =
-            refused (deliverRows l u m) u _ Refusal.LastRound (rw (ok, mine-passes (u .settings) m mine, closing-holds l u m c, up)) refl
+            refused (deliverConditions l u m) u _ Refusal.LastRound (rw (ok, mine-passes (u .settings) m mine, closing-holds l u m c, up)) refl
 
         pub deliver-accepts : (Closing l u m → ⊥) → deliver l u m ≡ received u m
-        unfolding deliverRows
+        unfolding deliverConditions
         deliver-accepts not-closing =
             deliver-accepted l u m (rw ok refl, (rw up refl, (mine-passes (u .settings) m mine, (denied _ (λ h. not-closing (holds-closing l u m h)), tt))))
 

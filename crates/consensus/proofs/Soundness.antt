@@ -36,22 +36,21 @@ use Rattle.contents.proofs.KindRules.{first-mileage, check-mileage, second-esti
 use Rattle.contents.proofs.Facts.{StateFacts, numbers-facts, message-facts}
 use Rattle.contents.proofs.Same.{estimate-same}
 use Rattle.contents.proofs.Tests.{or-left}
-use Rattle.consensus.specs.Methods.{forOther, outOfRange, isSecond, closesLast, refuses, unless}
-use Rattle.consensus.specs.Methods.{propose, proposeRows, deliver, deliverRows, keyOff, keyOn}
-use Rattle.consensus.specs.Rows.{row, NoneHolds}
+use Rattle.consensus.specs.Methods.{forOther, outOfRange, isSecond, closesLast, refuses, unless, propose, proposeConditions, deliver, deliverConditions}
+use Rattle.consensus.specs.Methods.{keyOff, keyOn}
+use Rattle.consensus.specs.Conditions.{condition, NoneHolds}
 use Rattle.consensus.specs.Sound.{From, Sound}
 use Rattle.consensus.specs.Step.{quiet, sends, says, emptyMessage, withCurrent, withProposal, withFirst, withSecond, withChecks, withSeconds, logWrite}
-use Rattle.consensus.specs.Step.{atRound, clean, fresh, recovered, orIfBlank, sendFirst, proposed, voteKind, voteProposal, takeFirst, isFull}
-use Rattle.consensus.specs.Step.{takeSecond}
+use Rattle.consensus.specs.Step.{atRound, clean, fresh, recovered, orIfBlank, sendFirst, proposed, voteKind, voteProposal, takeFirst, isFull, takeSecond}
 use Rattle.consensus.specs.Step.{checksWith, secondsWith, close, onKind, skip, received}
 use Rattle.consensus.specs.Units.{WellFormed, unitLog, downUnit, atLog}
 use Rattle.consensus.specs.declared.Power.{Power}
 use Rattle.consensus.specs.declared.Power.the-variants.{Down, Up}
 use Rattle.consensus.specs.declared.Unit as U
 use Rattle.consensus.proofs.Addressee.{passes-mine}
-use Rattle.consensus.proofs.Branches.{by-kind, by-check, by-second, by-round, by-rows}
-use Rattle.consensus.proofs.Parts.{Parts, parts, well, and-both, or-first, states-same, Vote, Places, places-mark, Tallied, tallied-none}
-use Rattle.consensus.proofs.Parts.{no-checks, parts-at-round, parts-at-log, well-at-log}
+use Rattle.consensus.proofs.Branches.{by-kind, by-check, by-second, by-round, by-conditions}
+use Rattle.consensus.proofs.Parts.{Parts, parts, well, and-both, or-first, states-same, Takes, Places, places-mark, WholeTally, tallied-none, no-checks}
+use Rattle.consensus.proofs.Parts.{parts-at-round, parts-at-log, well-at-log}
 use Rattle.consensus.proofs.Votes.{votes, common-vote, next-proposal, decided-blank}
 
 -- ---- answers that are sound: v is what becomes of u
@@ -139,11 +138,11 @@ module _ (l : Limits) (u v : U.Unit) (m : Message) (same : v .settings ≡ u .se
           record { round = c .round; proposal = c .proposal; first = mileage-blank l (m .proposal) mileage; second = c .second }
 
   -- a tally with this sender marked
-  module _ (split : Bool) (t : Tally) (f : Tallied l split (v .settings) t) (vote : Vote l split (m .estimate)) where
+  module _ (split : Bool) (t : Tally) (f : WholeTally l split (v .settings) t) (vote : Takes l split (m .estimate)) where
     marked : Places l split (v .settings .n) (mark t (m .sender) (m .estimate))
     marked = places-mark l split (v .settings .n) t (m .sender) (m .estimate) (f .typed) (f .facts .places) (i .below) (i .inside) vote
 
-    short : isFull v (mark t (m .sender) (m .estimate)) ≡ false → Tallied l split (v .settings) (mark t (m .sender) (m .estimate))
+    short : isFull v (mark t (m .sender) (m .estimate)) ≡ false → WholeTally l split (v .settings) (mark t (m .sender) (m .estimate))
     unfolding isFull
     short h =
         record {
@@ -153,7 +152,7 @@ module _ (l : Limits) (u v : U.Unit) (m : Message) (same : v .settings ≡ u .se
 
   -- CHECK is in B only
   module _ (k : m .kind ≡ Check) (blank : isBlank (v .current .second) ≡ true) where
-    check-kind : (isB (v .settings .engine) ≡ true) × Vote l false (m .estimate)
+    check-kind : (isB (v .settings .engine) ≡ true) × Takes l false (m .estimate)
     check-kind = let a = check-mileage l m (i .kind Check k) in (rw (i .engine ∙ a .0), or-first false (a .1 .0))
 
     check-short-sound : isFull v (checksWith v m) ≡ false → Sound l u (quiet (withChecks v (checksWith v m)))
@@ -175,7 +174,7 @@ module _ (l : Limits) (u v : U.Unit) (m : Message) (same : v .settings ≡ u .se
         (record { settings = p .settings; states = states-same l _ _ state; checks = none; seconds = p .seconds; unchecked = no-checks _ _ })
         Second everyone _ _ (second-ok l _ e _ (rw (check-kind .0) vote) (state .proposal))
       where
-        none : Tallied l false (v .settings) noMarks
+        none : WholeTally l false (v .settings) noMarks
         none = tallied-none l false (v .settings) (p .settings)
 
         t : Tally
@@ -184,7 +183,7 @@ module _ (l : Limits) (u v : U.Unit) (m : Message) (same : v .settings ≡ u .se
         e : Estimate
         e = common (gathered t)
 
-        vote : Vote l true e
+        vote : Takes l true e
         vote = common-vote l false (gathered t) (votes l false (v .settings .n) t (marked false (v .checks) (p .checks) (check-kind .1)))
 
         state : StateFacts l (v .settings .engine) (withSecond (v .current) e)
@@ -192,7 +191,7 @@ module _ (l : Limits) (u v : U.Unit) (m : Message) (same : v .settings ≡ u .se
             record { round = c .round; proposal = c .proposal; first = c .first; second = simp (check-kind .0, vote, or-true) }
 
   module _ (k : m .kind ≡ Second) where
-    second-vote : Vote l (isB (v .settings .engine)) (m .estimate)
+    second-vote : Takes l (isB (v .settings .engine)) (m .estimate)
     unfolding mileageOrSplit
     second-vote = rw (i .engine) (second-estimate l m (i .kind Second k))
 
@@ -222,7 +221,7 @@ module _ (l : Limits) (u v : U.Unit) (m : Message) (same : v .settings ≡ u .se
         t : Tally
         t = secondsWith v m
 
-        all : Each (Vote l split) (gathered t)
+        all : Each (Takes l split) (gathered t)
         all = votes l split (v .settings .n) t (marked split (v .seconds) (p .seconds) second-vote)
 
   kind-sound : (m .kind ≡ Second → isMarked (v .seconds .marks) (m .sender) ≡ false → isFull v (secondsWith v m) ≡ true
@@ -244,9 +243,9 @@ module _ (l : Limits) (u : U.Unit) (w : WellFormed l u) where
   sound-refuses k = sound-silent l u u refl (parts l u w) k Blank refl
 
   -- key-off and key-on leave a unit at its log
-  sound-key : (p : Power) (b : Bool) → Sound l u (unless (row Refusal.Power b ∷ []) u (quiet (atLog p (u .settings) (u .logged))))
+  sound-key : (p : Power) (b : Bool) → Sound l u (unless (condition Refusal.Power b ∷ []) u (quiet (atLog p (u .settings) (u .logged))))
   unfolding atLog
-  sound-key p b = by-rows (Sound l u) _ u _ (refl, tt) sound-refuses (λ _. sound-quiet l u (atLog p _ _) refl (parts-at-log l p (unitLog u) (w .log)))
+  sound-key p b = by-conditions (Sound l u) _ u _ (refl, tt) sound-refuses (λ _. sound-quiet l u (atLog p _ _) refl (parts-at-log l p (unitLog u) (w .log)))
 
   pub sound-key-off : Sound l u (keyOff u)
   unfolding keyOff downUnit
@@ -265,9 +264,9 @@ or-blank-mileage l Split v h r = never h
 or-blank-mileage l (Mileage x) v h r = or-left (inRange l x) false h refl
 
 pub sound-propose : (l : Limits) (u : U.Unit) (v : ℕ) → WellFormed l u → Sound l u (propose l u v)
-unfolding propose proposeRows proposed sendFirst outOfRange kindOk stateFits
+unfolding propose proposeConditions proposed sendFirst outOfRange kindOk stateFits
 sound-propose l u v w =
-    by-rows (Sound l u) (proposeRows l u v) u _ (refl, (refl, tt)) (sound-refuses l u w)
+    by-conditions (Sound l u) (proposeConditions l u v) u _ (refl, (refl, tt)) (sound-refuses l u w)
     (λ n. sound-sends l u next refl (changed n) First everyone e e (first-ok l next First e (ok n)))
   where
     p : Parts l u
@@ -279,10 +278,10 @@ sound-propose l u v w =
     next : U.Unit
     next = withCurrent u (withProposal (u .current) e)
 
-    ok : NoneHolds (proposeRows l u v) → isMileage l e ≡ true
+    ok : NoneHolds (proposeConditions l u v) → isMileage l e ≡ true
     ok n = or-blank-mileage l (u .current .proposal) v (p .states .current .proposal) (not-false (inRange l v) (n .1 .0))
 
-    changed : NoneHolds (proposeRows l u v) → Parts l next
+    changed : NoneHolds (proposeConditions l u v) → Parts l next
     changed n = let c = p .states .current in
         record {
           settings = p .settings;
@@ -298,7 +297,7 @@ sound-propose l u v w =
         }
 
 module _ (l : Limits) (u : U.Unit) (m : Message) (p : Parts l u) where
-  -- a unit at the last round does not close it: the row LastRound does not hold
+  -- a unit at the last round does not close it: the condition LastRound does not hold
   at-last : closesLast l u m ≡ false → m .round ≡ u .current .round → m .kind ≡ Second → isMarked (u .seconds .marks) (m .sender) ≡ false
       → isFull u (secondsWith u m) ≡ true → u .current .round < l .lastRound
   unfolding closesLast
@@ -321,13 +320,13 @@ module _ (l : Limits) (u : U.Unit) (m : Message) (p : Parts l u) where
       omega (arith, quorum-fits (u .settings .engine) (u .settings .n) low)
 
 pub sound-deliver : (l : Limits) (u : U.Unit) (m : Message) → WellFormed l u → Sound l u (deliver l u m)
-unfolding deliver deliverRows skip kindOk skipOk says atRound
-sound-deliver l u m w = by-rows (Sound l u) (deliverRows l u m) u _ (refl, (refl, (refl, (refl, tt)))) (sound-refuses l u w) step
+unfolding deliver deliverConditions skip kindOk skipOk says atRound
+sound-deliver l u m w = by-conditions (Sound l u) (deliverConditions l u m) u _ (refl, (refl, (refl, (refl, tt)))) (sound-refuses l u w) step
   where
     p : Parts l u
     p = parts l u w
 
-    step : NoneHolds (deliverRows l u m) → Sound l u (received u m)
+    step : NoneHolds (deliverConditions l u m) → Sound l u (received u m)
     step n =
         by-round (Sound l u) u m
         (λ _. sound-sends l u u refl p Skip (m .sender) Blank _ (and-both (and-both (lt-ltb _ _ (i .below)) refl) (p .states .current .proposal)))

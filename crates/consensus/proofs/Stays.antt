@@ -21,13 +21,13 @@ use Rattle.consensus.specs.declared.Unit as U
 use Rattle.consensus.proofs.Branches.{by-kind, by-check, by-second, by-round}
 
 -- an estimate that is not blank stays
-abbrev pub Kept : Estimate → Estimate → Type 0
-Kept a b = isBlank a ≡ false → b ≡ a
+abbrev pub StaysSet : Estimate → Estimate → Type 0
+StaysSet a b = isBlank a ≡ false → b ≡ a
 
 -- from the state a to the state b: the round does not fall, and where it stays both estimates do
 pub record Stays (a b : State) : Type 0 where
   pub round : a .round ≤ b .round
-  pub estimates : b .round ≡ a .round → Kept (a .first) (b .first) × Kept (a .second) (b .second)
+  pub estimates : b .round ≡ a .round → StaysSet (a .first) (b .first) × StaysSet (a .second) (b .second)
 
 stays-same : (s : State) → Stays s s
 stays-same s = record { round = omega arith; estimates = λ e. (λ n. refl, λ n. refl) }
@@ -35,7 +35,7 @@ stays-same s = record { round = omega arith; estimates = λ e. (λ n. refl, λ n
 stays-risen : (a b : State) → a .round < b .round → Stays a b
 stays-risen a b h = record { round = omega arith; estimates = λ e. absurd (omega arith) }
 
-was-blank : (a b : Estimate) → isBlank a ≡ true → Kept a b
+was-blank : (a b : Estimate) → isBlank a ≡ true → StaysSet a b
 was-blank a b h n = never (sym n ∙ h)
 
 abbrev StaysTo : U.Unit → Answer → Type 0

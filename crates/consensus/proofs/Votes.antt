@@ -20,7 +20,7 @@ use Rattle.tally.proofs.Never.{never}
 use Rattle.contents.specs.Estimates.{inRange, isBlank, mileageOrBlank}
 use Rattle.contents.proofs.Facts.{known-or-split}
 use Rattle.consensus.specs.Step.{decided, nextProposal}
-use Rattle.consensus.proofs.Parts.{Vote, Places, or-first}
+use Rattle.consensus.proofs.Parts.{Takes, Places, or-first}
 
 -- what holds of each marked place holds of each gathered
 module _ (P : Estimate → Type 0) (t : Tally) (marked : (s : ℕ) → s < senders → isMarked (t .marks) s ≡ true → P (placed t s)) where
@@ -40,36 +40,36 @@ module _ (P : Estimate → Type 0) (t : Tally) (marked : (s : ℕ) → s < sende
 
 module _ (l : Limits) (split : Bool) where
   -- marked places hold votes
-  pub votes : (n : ℕ) (t : Tally) → Places l split n t → Each (Vote l split) (gathered t)
-  votes n t f = each-gathered (Vote l split) t (λ s b e. rw e at (f s b .vote))
+  pub votes : (n : ℕ) (t : Tally) → Places l split n t → Each (Takes l split) (gathered t)
+  votes n t f = each-gathered (Takes l split) t (λ s b e. rw e at (f s b .vote))
 
-  in-range : (v : ℕ) → Vote l split (Mileage v) → (inRange l v || false) ≡ true
+  in-range : (v : ℕ) → Takes l split (Mileage v) → (inRange l v || false) ≡ true
   in-range v h = or-first false (le-leb _ _ (known-or-split l split (Mileage v) h))
 
   -- the common one is a mileage, or split
-  pub common-vote : (es : List Estimate) → Each (Vote l split) es → Vote l true (common es)
+  pub common-vote : (es : List Estimate) → Each (Takes l split) es → Takes l true (common es)
   unfolding common
   common-vote [] f = refl
   common-vote (Blank ∷ es) f = refl
   common-vote (Split ∷ es) f = refl
   common-vote (Mileage v ∷ es) f = go (allHold v es)
     where
-      go : (b : Bool) → Vote l true (cond b (Mileage v) Split)
+      go : (b : Bool) → Takes l true (cond b (Mileage v) Split)
       go true = in-range v (f .0)
       go false = refl
 
   -- what is found by a test that split fails is a mileage, or blank
-  found-blank : (P : Estimate → Bool) → P Split ≡ false → (es : List Estimate) → Each (Vote l split) es
+  found-blank : (P : Estimate → Bool) → P Split ≡ false → (es : List Estimate) → Each (Takes l split) es
       → mileageOrBlank l (firstPassing P es) ≡ true
   unfolding mileageOrBlank
   found-blank P fails es f = found P (λ e. mileageOrBlank l e ≡ true) refl es (each-map go es f)
     where
-      go : (e : Estimate) → Vote l split e → P e ≡ true → mileageOrBlank l e ≡ true
+      go : (e : Estimate) → Takes l split e → P e ≡ true → mileageOrBlank l e ≡ true
       go Blank v q = refl
       go Split v q = never (sym fails ∙ q)
       go (Mileage w) v q = in-range w v
 
-  pub next-proposal : (g : Engine) (n : ℕ) (t : Tally) (own : Estimate) → Each (Vote l split) (gathered t) → mileageOrBlank l own ≡ true
+  pub next-proposal : (g : Engine) (n : ℕ) (t : Tally) (own : Estimate) → Each (Takes l split) (gathered t) → mileageOrBlank l own ≡ true
       → mileageOrBlank l (nextProposal g n t own) ≡ true
   unfolding nextProposal lowest majority leads
   next-proposal R n t own f h = found-blank (leads (majorityOf n) (gathered t)) refl (gathered t) f
@@ -82,7 +82,7 @@ module _ (l : Limits) (split : Bool) where
       go true = h
       go false = found-blank anyMileage refl (gathered t) f
 
-pub decided-blank : (l : Limits) (e : Estimate) → Vote l true e → mileageOrBlank l (decided e) ≡ true
+pub decided-blank : (l : Limits) (e : Estimate) → Takes l true e → mileageOrBlank l (decided e) ≡ true
 unfolding mileageOrBlank
 decided-blank l Blank h = refl
 decided-blank l Split h = refl

@@ -14,7 +14,7 @@ use Rattle.contents.specs.declared.Kind.{Kind}
 use Rattle.contents.specs.declared.Kind.the-variants.{Empty, First, Check, Second, Skip}
 use Rattle.contents.specs.declared.Message.{Message}
 use Rattle.contents.specs.declared.Settings.{Settings}
-use Rattle.consensus.specs.Rows.{Row, row, firstOf}
+use Rattle.consensus.specs.Conditions.{Condition, condition, firstOf}
 use Rattle.consensus.specs.Step.{emptyMessage, quiet, isFull, secondsWith, proposed, received, recovered}
 use Rattle.consensus.specs.Units.{unitLog, downUnit}
 use Rattle.consensus.specs.declared.Answer.{Answer}
@@ -22,7 +22,7 @@ use Rattle.consensus.specs.declared.Power.{Power}
 use Rattle.consensus.specs.declared.Power.the-variants.{Down, Up}
 use Rattle.consensus.specs.declared.Unit as U
 
--- ---- the conditions of the table's rows
+-- ---- the table's conditions
 
 -- 9: unit down, or for key-on not down
 abbrev pub isUp : Power → Bool
@@ -65,36 +65,32 @@ closesLast l u m =
 abbrev pub refuses : U.Unit → Refusal → Answer
 refuses u k = record { refusal = k; unit = u; message = emptyMessage; decision = Blank }
 
--- the first row that holds refuses; where none does, the answer
-unfoldable pub unless : List Row → U.Unit → Answer → Answer
-unless rows u a = cond (eqb (numberOf (firstOf rows)) 0) a (refuses u (firstOf rows))
+-- the first condition that holds refuses; where none does, the answer
+unfoldable pub unless : List Condition → U.Unit → Answer → Answer
+unless conditions u a = cond (eqb (numberOf (firstOf conditions)) 0) a (refuses u (firstOf conditions))
 
 -- the lowest number first, but 9 before 5, 6 and 7, as on the bench
-unfoldable pub proposeRows : Limits → U.Unit → ℕ → List Row
-proposeRows l u v = row Refusal.Power (not (isUp (u .power))) ∷ row Refusal.Mileage (outOfRange l v) ∷ []
+unfoldable pub proposeConditions : Limits → U.Unit → ℕ → List Condition
+proposeConditions l u v = condition Refusal.Power (not (isUp (u .power))) ∷ condition Refusal.Mileage (outOfRange l v) ∷ []
 
 unfoldable pub propose : Limits → U.Unit → ℕ → Answer
-propose l u v = unless (proposeRows l u v) u (proposed u v)
+propose l u v = unless (proposeConditions l u v) u (proposed u v)
 
-unfoldable pub deliverRows : Limits → U.Unit → Message → List Row
-deliverRows l u m =
-    row Refusal.Message (not (messageOk l m))
-    ∷ row Refusal.Power (not (isUp (u .power)))
-    ∷ row Refusal.Addressee (forOther (u .settings) m)
-    ∷ row Refusal.LastRound (closesLast l u m)
+unfoldable pub deliverConditions : Limits → U.Unit → Message → List Condition
+deliverConditions l u m =
+    condition Refusal.Message (not (messageOk l m))
+    ∷ condition Refusal.Power (not (isUp (u .power)))
+    ∷ condition Refusal.Addressee (forOther (u .settings) m)
+    ∷ condition Refusal.LastRound (closesLast l u m)
     ∷ []
 
 unfoldable pub deliver : Limits → U.Unit → Message → Answer
-deliver l u m = unless (deliverRows l u m) u (received u m)
-
--- a delivery to an up unit of a well-formed message that is for it: 7 is the one row left
-unfoldable pub deliverRead : Limits → U.Unit → Message → Answer
-deliverRead l u m = unless (row Refusal.LastRound (closesLast l u m) ∷ []) u (received u m)
+deliver l u m = unless (deliverConditions l u m) u (received u m)
 
 -- key-off (the scope paper's term): the image is lost
 unfoldable pub keyOff : U.Unit → Answer
-keyOff u = unless (row Refusal.Power (not (isUp (u .power))) ∷ []) u (quiet (downUnit (unitLog u)))
+keyOff u = unless (condition Refusal.Power (not (isUp (u .power))) ∷ []) u (quiet (downUnit (unitLog u)))
 
 -- key-on (the scope paper's term)
 unfoldable pub keyOn : U.Unit → Answer
-keyOn u = unless (row Refusal.Power (isUp (u .power)) ∷ []) u (quiet (recovered u))
+keyOn u = unless (condition Refusal.Power (isUp (u .power)) ∷ []) u (quiet (recovered u))

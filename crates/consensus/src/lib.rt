@@ -77,7 +77,7 @@ impl Unit {
     }
 
     // The down unit of a log.
-    pub fn down(log: Log) -> Unit
+    pub(crate) fn down(log: Log) -> Unit
         ensures { λ r. ⌜ r ≡ downUnit log ⌝ }
     {
         let settings = log.settings;

@@ -6,8 +6,8 @@ use super::step;
 use contents::Kind;
 use contents::Message;
 use contents::Settings;
-use contents::estimates;
-use contents::messages;
+use rules::estimates;
+use rules::messages;
 use tally::Estimate;
 use tally::Refusal;
 use tally::limits;
@@ -16,8 +16,8 @@ ghost use mathlib.Core.Bool.{true};
 ghost use Prim.Native.Nat.{_<_};
 ghost use Rattle.tally.specs.Limits.{today, senders};
 ghost use Rattle.contents.specs.Messages.{messageOk};
-ghost use Rattle.consensus.specs.Methods.{isUp, forOther, outOfRange, isSecond, closesLast, refuses, deliverRead};
-ghost use Rattle.consensus.specs.Methods.{propose, deliver, keyOff, keyOn};
+ghost use Rattle.consensus.specs.Methods.{isUp, forOther, outOfRange, isSecond, closesLast, refuses, propose, deliver, keyOff, keyOn};
+ghost use Rattle.consensus.specs.InnerMethods.{deliverRead};
 
 pub fn is_up(power: Power) -> bool
     ensures { λ r. ⌜ r ≡ isUp power ⌝ }

@@ -6,7 +6,7 @@ use contents::Kind;
 use contents::Message;
 use contents::Settings;
 use contents::State;
-use contents::estimates;
+use rules::estimates;
 use tally::Engine;
 use tally::Estimate;
 use tally::Refusal;
@@ -20,10 +20,9 @@ ghost use lib.Dec.{leb};
 ghost use Rattle.tally.specs.Limits.{today, senders};
 ghost use Rattle.tally.specs.Quorum.{quorumOf};
 ghost use Rattle.tally.specs.Tally.{mark};
-ghost use Rattle.consensus.specs.Step.{gives, quiet, says, sends, withCurrent, withChecks, withSeconds, logWrite, clean, atRound};
-ghost use Rattle.consensus.specs.Step.{fresh, recovered, orIfBlank, sendFirst, proposed, voteKind, voteProposal, takeFirst, onFirst};
-ghost use Rattle.consensus.specs.Step.{takeSecond, countCheck, onCheck, decided, nextProposal, close, countSecond};
-ghost use Rattle.consensus.specs.Step.{onSecond, onKind, skip, caughtUp, received};
+ghost use Rattle.consensus.specs.Step.{gives, quiet, says, sends, withCurrent, withChecks, withSeconds, logWrite, clean, atRound, fresh, recovered};
+ghost use Rattle.consensus.specs.Step.{orIfBlank, sendFirst, proposed, voteKind, voteProposal, takeFirst, onFirst, takeSecond, countCheck, onCheck};
+ghost use Rattle.consensus.specs.Step.{decided, nextProposal, close, countSecond, onSecond, onKind, skip, caughtUp, received};
 
 // An empty message is what a step that sends nothing gives.
 pub const EMPTY: Message = Message {
@@ -213,7 +212,7 @@ impl Unit {
     }
 
     // The image of the log, without marks.
-    pub fn recovered(self) -> Unit
+    pub(crate) fn recovered(self) -> Unit
         ensures { λ r. ⌜ r ≡ recovered self ⌝ }
     {
         let settings = self.settings;

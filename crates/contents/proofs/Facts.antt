@@ -5,10 +5,10 @@ use mathlib.Core.Bool.{Bool, true, false, _&&_, _||_}
 use native.Mathlib.Omega.{arith}
 use lib.Count.{ones}
 use lib.Dec.{eqb, leb, ltb}
-use borrow.Author.Tests.{leb-true, ltb-true, eqb-true, le-ltb}
+use borrow.Author.Tests.{leb-true, ltb-true, eqb-true, le-leb, lt-ltb, le-ltb}
 use Rattle.tally.specs.Limits.{Limits, minUnits, maxUnits, minEntry, maxEntry, everyone, senders}
 use Rattle.tally.specs.Quorum.{quorumOf}
-use Rattle.tally.specs.Tally.{isMarked, placed}
+use Rattle.tally.specs.Tally.{isMarked, placed, OnlyBelow}
 use Rattle.tally.specs.declared.Engine.{Engine}
 use Rattle.tally.specs.declared.Engine.the-variants.{B, R}
 use Rattle.tally.specs.declared.Estimate.{Estimate}
@@ -25,7 +25,6 @@ use Rattle.contents.specs.declared.Log.{Log}
 use Rattle.contents.specs.declared.Message.{Message}
 use Rattle.contents.specs.declared.State.{State}
 use Rattle.tally.proofs.Never.{never}
-use Rattle.tally.specs.Tally.{OnlyBelow}
 use Rattle.contents.proofs.Tests.{both-true, or-left, every-at}
 
 -- an estimate that some place takes: a mileage is in its range
@@ -92,6 +91,24 @@ numbers-facts n unit entry h =
       entry-low = leb-true _ _ (b .1);
       entry-high = leb-true _ _ (a .1);
     }
+
+-- and all in these ranges are accepted
+pub numbers-ok : (n unit entry : ℕ) → Numbers n unit entry → numbersOk n unit entry ≡ true
+numbers-ok n unit entry f =
+    rw (
+      le-leb minUnits n (f .n-low),
+      le-leb n maxUnits (f .n-high),
+      lt-ltb unit n (f .below),
+      le-leb minEntry entry (f .entry-low),
+      le-leb entry maxEntry (f .entry-high),
+    )
+
+-- in R the second estimate is always blank
+pub second-in-r : (l : Limits) (e : Estimate) → secondFits l R e ≡ true → e ≡ Blank
+unfolding secondFits
+second-in-r l Blank h = refl
+second-in-r l Split h = never h
+second-in-r l (Mileage m) h = never h
 
 pub record StateFacts (l : Limits) (g : Engine) (s : State) : Type 0 where
   pub round : s .round ≤ l .lastRound

@@ -1,11 +1,12 @@
 -- What the rule of each kind says of a message's estimate and proposal. Assumes nothing.
-use mathlib.Core.Path.{_≡_, refl}
+use mathlib.Core.Path.{_≡_, refl, sym}
 use mathlib.Core.Bool.{true, _&&_}
 use lib.Dec.{eqb, ltb}
 use Rattle.tally.specs.Limits.{Limits, everyone}
 use Rattle.tally.specs.declared.Engine.{Engine}
 use Rattle.tally.specs.declared.Engine.the-variants.{B, R}
 use Rattle.tally.specs.declared.Estimate.{Estimate}
+use Rattle.tally.specs.declared.Estimate.the-variants.{Blank}
 use Rattle.tally.proofs.Never.{never}
 use Rattle.contents.specs.Estimates.{isB, isBlank, isMileage, mileageOrBlank, mileageOrSplit, sameMileage}
 use Rattle.contents.specs.Messages.{firstOk, checkOk, secondOk, skipOk, kindOk}
@@ -41,6 +42,13 @@ module _ (l : Limits) where
   second-estimate m h =
       let a = both-true (eqb (m .receiver) everyone && mileageOrSplit l (m .engine) (m .estimate)) _ h in
       both-true (eqb (m .receiver) everyone) _ (a .0) .1
+
+  -- a SKIP's estimate is blank
+  pub skip-estimate : (m : Message) → kindOk l Skip m ≡ true → m .estimate ≡ Blank
+  unfolding kindOk skipOk
+  skip-estimate m h =
+      let a = both-true (ltb (m .receiver) (m .n) && isBlank (m .estimate)) _ h in
+      sym (same-estimate Blank _ (both-true (ltb (m .receiver) (m .n)) _ (a .0) .1))
 
   pub mileage-blank : (e : Estimate) → isMileage l e ≡ true → mileageOrBlank l e ≡ true
   unfolding mileageOrBlank

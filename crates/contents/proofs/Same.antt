@@ -65,9 +65,11 @@ pub settings-same : (a : Settings) → sameSettings a a ≡ true
 unfolding sameSettings
 settings-same a = rw (engine-same (a .engine), eq-eqb (a .n) (a .n) refl, eq-eqb (a .unit) (a .unit) refl, eq-eqb (a .entry) (a .entry) refl)
 
--- an image's state that fits a log's: the round is higher, or the same with both estimates
+-- an image's state that fits a log's: the round is higher and both estimates are blank, or the round and both estimates are the same
 abbrev pub Fits : State → State → Type 0
-Fits i s = (s .round < i .round) ⊎ ((s .round ≡ i .round) × ((s .first ≡ i .first) × (s .second ≡ i .second)))
+Fits i s =
+    ((s .round < i .round) × ((i .first ≡ Blank) × (i .second ≡ Blank)))
+    ⊎ ((s .round ≡ i .round) × ((s .first ≡ i .first) × (s .second ≡ i .second)))
 
 pub state-fits : (i s : State) → stateFits i s ≡ true → Fits i s
 unfolding stateFits
@@ -75,7 +77,10 @@ state-fits i s h = go (eqb (i .round) (s .round) && sameEstimate (i .first) (s .
   where
     go : (b : Bool) → (eqb (i .round) (s .round) && sameEstimate (i .first) (s .first) && sameEstimate (i .second) (s .second)) ≡ b
         → (b || (ltb (s .round) (i .round) && isBlank (i .first) && isBlank (i .second))) ≡ true → Fits i s
-    go false e h = inl (ltb-true _ _ (both-true (ltb (s .round) (i .round)) _ (both-true _ _ h .0) .0))
+    go false e h =
+        let p = both-true (ltb (s .round) (i .round) && isBlank (i .first)) (isBlank (i .second)) h in
+        let q = both-true (ltb (s .round) (i .round)) (isBlank (i .first)) (p .0) in
+        inl (ltb-true _ _ (q .0), (sym (same-estimate Blank _ (q .1)), sym (same-estimate Blank _ (p .1))))
     go true e h =
         let p = both-true _ _ e in
         let q = both-true (eqb (i .round) (s .round)) _ (p .0) in

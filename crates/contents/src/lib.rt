@@ -1,8 +1,4 @@
-// What logs, images and messages hold, and which of them are well formed.
-pub mod estimates;
-pub mod images;
-pub mod logs;
-pub mod messages;
+// What logs, images and messages hold; which of them are well formed is in specs/, and as code in crate rules.
 
 use tally::Engine;
 use tally::Estimate;

@@ -1,10 +1,10 @@
 // Logs and messages between plain numbers and bytes, for the C entries.
 mod numbers;
 
-use codec::EngineRead;
-use codec::KindRead;
-use codec::LogRead;
-use codec::MessageRead;
+use formats::EngineRead;
+use formats::KindRead;
+use formats::LogRead;
+use formats::MessageRead;
 use tally::Refusal;
 use tally::limits;
 ghost use mathlib.Core.Path.{_≡_};
@@ -12,9 +12,10 @@ ghost use mathlib.Core.Bool.{true};
 ghost use lib.ListN.{length};
 ghost use Rattle.tally.specs.Limits.{today, messageSize, messageFields};
 ghost use Rattle.tally.specs.Refusal.{numberOf};
-ghost use Rattle.codec.specs.Formats.{wrote};
-ghost use Rattle.codec.specs.Messages.{cleared};
-ghost use Rattle.fields.specs.Fields.{messageNarrow, writeKnown, readLogCall, writeLogCall, readMessageCall, writeMessageCall};
+ghost use Rattle.formats.specs.Formats.{wrote};
+ghost use Rattle.formats.specs.Messages.{cleared};
+ghost use Rattle.calls.specs.Fields.{readLogCall, writeLogCall, readMessageCall, writeMessageCall};
+ghost use Rattle.calls.specs.InnerFields.{messageNarrow, writeKnown};
 
 // Reads a log's eight numbers: engine letter, n, unit, entry, round, proposal, first and second estimate.
 pub fn read_log(log: &[u8], fields: &mut [u32]) -> u32
@@ -45,7 +46,7 @@ pub fn write_log(fields: &[u32], log: &mut [u8]) -> u32
     if !numbers::log_narrow(fields) {
         return tally::number(Refusal::Log);
     }
-    match codec::codes::engine_of(fields[0] as u8) {
+    match codes::engine_of(fields[0] as u8) {
         EngineRead::Is(e) => tally::number(codec::logs::write_log(numbers::log_of(e, fields), log)),
         EngineRead::Unknown => tally::number(Refusal::Log),
     }
@@ -106,7 +107,7 @@ pub fn write_message(fields: &[u32], message: &mut [u8]) -> u32
     if !numbers::message_narrow(fields) {
         return refuse(Refusal::Message, message);
     }
-    let kind = codec::codes::kind_of(fields[0] as u8);
-    let engine = codec::codes::engine_of(fields[1] as u8);
+    let kind = codes::kind_of(fields[0] as u8);
+    let engine = codes::engine_of(fields[1] as u8);
     write_known(kind, engine, fields, message)
 }

@@ -12,9 +12,9 @@ ghost use Prim.Native.Nat.{_^_};
 ghost use lib.Dec.{ltb};
 ghost use lib.ListN.{length};
 ghost use Rattle.tally.specs.Limits.{today, logFields, messageFields};
-ghost use Rattle.codec.specs.Logs.{logNumbers, logOf};
-ghost use Rattle.codec.specs.Messages.{messageNumbers, messageOf};
-ghost use Rattle.fields.specs.Fields.{logNarrow, messageNarrow};
+ghost use Rattle.formats.specs.Logs.{logNumbers, logOf};
+ghost use Rattle.formats.specs.Messages.{messageNumbers, messageOf};
+ghost use Rattle.calls.specs.InnerFields.{logNarrow, messageNarrow};
 
 // Does each number fit its bytes?
 pub(crate) fn log_narrow(f: &[u32]) -> bool
@@ -37,9 +37,9 @@ pub(crate) fn log_of(engine: Engine, f: &[u32]) -> Log
         },
         state: State {
             round: f[4] as Round,
-            proposal: codec::codes::estimate_of(f[5]),
-            first: codec::codes::estimate_of(f[6]),
-            second: codec::codes::estimate_of(f[7]),
+            proposal: codes::estimate_of(f[5]),
+            first: codes::estimate_of(f[6]),
+            second: codes::estimate_of(f[7]),
         },
     }
 }
@@ -54,14 +54,14 @@ pub(crate) fn put_log(log: Log, f: &mut [u32])
     let proposal = state.proposal;
     let first = state.first;
     let second = state.second;
-    f[0] = wide8(codec::codes::letter_of(engine));
+    f[0] = wide8(codes::letter_of(engine));
     f[1] = wide8(settings.n);
     f[2] = wide8(settings.unit);
     f[3] = wide16(settings.entry);
     f[4] = wide_round(state.round);
-    f[5] = codec::codes::code_of(proposal);
-    f[6] = codec::codes::code_of(first);
-    f[7] = codec::codes::code_of(second);
+    f[5] = codes::code_of(proposal);
+    f[6] = codes::code_of(first);
+    f[7] = codes::code_of(second);
 }
 
 pub(crate) fn message_narrow(f: &[u32]) -> bool
@@ -89,8 +89,8 @@ pub(crate) fn message_of(kind: Kind, engine: Engine, f: &[u32]) -> Message
         receiver: f[4] as u8,
         entry: f[5] as u16,
         round: f[6] as Round,
-        estimate: codec::codes::estimate_of(f[7]),
-        proposal: codec::codes::estimate_of(f[8]),
+        estimate: codes::estimate_of(f[7]),
+        proposal: codes::estimate_of(f[8]),
     }
 }
 
@@ -102,15 +102,15 @@ pub(crate) fn put_message(m: Message, f: &mut [u32])
     let engine = m.engine;
     let estimate = m.estimate;
     let proposal = m.proposal;
-    f[0] = wide8(codec::codes::kind_letter(kind));
-    f[1] = wide8(codec::codes::letter_of(engine));
+    f[0] = wide8(codes::kind_letter(kind));
+    f[1] = wide8(codes::letter_of(engine));
     f[2] = wide8(m.n);
     f[3] = wide8(m.sender);
     f[4] = wide8(m.receiver);
     f[5] = wide16(m.entry);
     f[6] = wide_round(m.round);
-    f[7] = codec::codes::code_of(estimate);
-    f[8] = codec::codes::code_of(proposal);
+    f[7] = codes::code_of(estimate);
+    f[8] = codes::code_of(proposal);
 }
 
 // Does it fit a round's bytes?

@@ -1,20 +1,10 @@
 // What a C program links: logs and messages as plain numbers and as bytes, and the four calls of a unit.
-mod calls;
-
-use codec::EngineRead;
-use codec::LogRead;
-use codec::MessageRead;
-use codec::StateRead;
-use consensus::Unit;
-use contents::Settings;
-use tally::Refusal;
-use tally::limits;
 ghost use mathlib.Core.Path.{_≡_};
 ghost use mathlib.Core.List.{[]};
 ghost use Rattle.tally.specs.Limits.{today, blankCode};
-ghost use Rattle.codec.specs.Formats.{wrote};
-ghost use Rattle.fields.specs.Fields.{readLogCall, writeLogCall, readMessageCall, writeMessageCall};
-ghost use Rattle.mileage.specs.Calls.{called, startCall, keyOnCall, proposeCall, deliverCall};
+ghost use Rattle.formats.specs.Formats.{wrote};
+ghost use Rattle.calls.specs.Fields.{readLogCall, writeLogCall, readMessageCall, writeMessageCall};
+ghost use Rattle.calls.specs.Calls.{called, startCall, keyOnCall, proposeCall, deliverCall};
 
 // Reads a log's eight numbers: engine letter, n, unit, entry, round, proposal, first and second estimate.
 #[no_mangle]
@@ -61,28 +51,7 @@ pub extern "C" fn mileage_start(
     ensures { λ r. ⌜ called r (now (log .exit)) (now (image .exit)) [] blankCode
         ≡ startCall today engine n unit entry (now (log .entry)) (now (image .entry)) ⌝ }
 {
-    if calls::wrong_lengths(log, image) {
-        return tally::number(Refusal::Length);
-    }
-    if !calls::settings_narrow(engine, n, unit, entry) {
-        return tally::number(Refusal::Log);
-    }
-    let EngineRead::Is(e) = codec::codes::engine_of(engine as u8) else {
-        return tally::number(Refusal::Log);
-    };
-    let settings = Settings {
-        engine: e,
-        n: n as u8,
-        unit: unit as u8,
-        entry: entry as u16,
-    };
-    if !contents::logs::settings_ok(settings) {
-        return tally::number(Refusal::Log);
-    }
-    let l = Unit::fresh(settings).log();
-    codec::logs::store_log(l, log);
-    codec::images::store_unmarked(l, image);
-    tally::number(Refusal::None)
+    unit_calls::start(engine, n, unit, entry, log, image)
 }
 
 // Key-on: writes the image that the log gives, and does not read what it held.
@@ -90,14 +59,7 @@ pub extern "C" fn mileage_start(
 pub extern "C" fn mileage_key_on(log: &[u8], image: &mut [u8]) -> u32
     ensures { λ r. ⌜ called r (now (log .entry)) (now (image .exit)) [] blankCode ≡ keyOnCall today (now (log .entry)) (now (image .entry)) ⌝ }
 {
-    if calls::wrong_lengths(log, image) {
-        return tally::number(Refusal::Length);
-    }
-    let LogRead::Read(l) = codec::logs::read_log(log) else {
-        return tally::number(Refusal::Log);
-    };
-    codec::images::store_unmarked(l, image);
-    tally::number(Refusal::None)
+    unit_calls::key_on(log, image)
 }
 
 // Proposes a mileage: writes the image and a message, and no log.
@@ -106,24 +68,7 @@ pub extern "C" fn mileage_propose(log: &[u8], image: &mut [u8], mileage: u32, ou
     ensures { λ r. ⌜ called r (now (log .entry)) (now (image .exit)) (now (out .exit)) blankCode
         ≡ proposeCall today (now (log .entry)) (now (image .entry)) mileage (now (out .entry)) ⌝ }
 {
-    let wrong = calls::wrong_lengths(log, image) | (out.len() != limits::MESSAGE_SIZE);
-    codec::messages::clear(out);
-    if wrong {
-        return tally::number(Refusal::Length);
-    }
-    let LogRead::Read(l) = codec::logs::read_log(log) else {
-        return tally::number(Refusal::Log);
-    };
-    let StateRead::Fits(state) = codec::images::state_for(image, l) else {
-        return tally::number(Refusal::Image);
-    };
-    let u = Unit::up(
-        l,
-        state,
-        codec::images::checks_of(image),
-        codec::images::seconds_of(image),
-    );
-    calls::put_proposal(u.propose(mileage), image, out)
+    unit_calls::propose(log, image, mileage, out)
 }
 
 // Delivers a message: where nothing is refused, writes log, image and message. The decision is always written.
@@ -138,28 +83,5 @@ pub extern "C" fn mileage_deliver(
     ensures { λ r. ⌜ called r (now (log .exit)) (now (image .exit)) (now (out .exit)) (now (decision .exit))
         ≡ deliverCall today (now (log .entry)) (now (image .entry)) (now (message .entry)) (now (out .entry)) ⌝ }
 {
-    *decision = limits::BLANK;
-    let wrong = calls::wrong_lengths(log, image)
-        | (message.len() != limits::MESSAGE_SIZE)
-        | (out.len() != limits::MESSAGE_SIZE);
-    codec::messages::clear(out);
-    if wrong {
-        return tally::number(Refusal::Length);
-    }
-    let LogRead::Read(l) = codec::logs::read_log(log) else {
-        return tally::number(Refusal::Log);
-    };
-    let StateRead::Fits(state) = codec::images::state_for(image, l) else {
-        return tally::number(Refusal::Image);
-    };
-    let MessageRead::Read(m) = codec::messages::read_message(message) else {
-        return tally::number(Refusal::Message);
-    };
-    let u = Unit::up(
-        l,
-        state,
-        codec::images::checks_of(image),
-        codec::images::seconds_of(image),
-    );
-    calls::put_answer(u.deliver(m), log, image, out, decision)
+    unit_calls::deliver(log, image, message, out, decision)
 }

@@ -1,4 +1,5 @@
 // The bench program: a script on standard input, its listing on standard output.
 fn main() {
-    bench_stream::play(0, 1);
+    let mut out = bench::page();
+    bench_stream::play(0, 1, &mut out);
 }

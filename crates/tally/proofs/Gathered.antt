@@ -8,7 +8,8 @@ use lib.Dec.{eqb, eqb·suc-suc}
 use lib.ListN.{length}
 use borrow.Author.Tests.{eq-eqb, ne-eqb, eqb-true, eqb-false, le-leb, lt-leb, leb-true}
 use Rattle.tally.specs.Count.{bump, passing}
-use Rattle.tally.specs.Gathered.{anyMileage, holds, holders, allHold, common, firstPassing, lowest, leads, majority, agrees}
+use Rattle.tally.specs.Gathered.{anyMileage, holds, holders, allHold, common, firstPassing, lowest, leads, majority}
+use Rattle.tally.specs.InnerGathered.{agrees}
 use Rattle.tally.specs.Quorum.{quorumOf, majorityOf}
 use Rattle.tally.specs.declared.Engine.the-variants.{R}
 use Rattle.tally.specs.declared.Estimate.{Estimate}

@@ -3,8 +3,8 @@ use Prim.Native.Nat.{ℕ, zero, suc, _+_, _-_, _*_, _/_, _%_, _^_, _<_}
 use mathlib.Core.Path.{_≡_, refl, sym, ap, ap₂, _∙_}
 use mathlib.Core.Bool.{Bool, true, false}
 use mathlib.Core.Logic.{⊎-elim}
-use native.Mathlib.Nat.{zero-div, mod-lt, add-zero, one-mul, zero-mul, suc-mul, zero-add}
-use native.Mathlib.Nat.{mod-one, pow-suc, mul-mod-left, div-eq-of-lt, eq-or-lt-of-le, mod-eq-of-lt}
+use native.Mathlib.Nat.{zero-div, mod-lt, add-zero, one-mul, zero-mul, suc-mul, zero-add, mod-one, pow-suc, mul-mod-left, div-eq-of-lt, eq-or-lt-of-le}
+use native.Mathlib.Nat.{mod-eq-of-lt}
 use native.Mathlib.Numerals.{add-one, one-add}
 use native.Mathlib.Omega.{arith}
 use borrow.Author.Tests.{eqb-false, leb-true, leb-false}

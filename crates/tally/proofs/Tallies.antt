@@ -13,7 +13,8 @@ use lib.Pow.{pow-lt, pow-pos}
 use lib.Seq.{getD-set-same, getD-set-other}
 use Rattle.tally.specs.Limits.{senders}
 use Rattle.tally.specs.Count.{bump, passing, count, Both}
-use Rattle.tally.specs.Gathered.{holds, holders, firstPassing, agrees}
+use Rattle.tally.specs.Gathered.{holds, holders, firstPassing}
+use Rattle.tally.specs.InnerGathered.{agrees}
 use Rattle.tally.specs.Tally.{Typed, OnlyBelow, noMarks, isMarked, blankCell, placed, held, mark, gatheredFrom, gathered}
 use Rattle.tally.specs.Quorum.{quorumOf}
 use Rattle.tally.specs.declared.Cell.{Cell}

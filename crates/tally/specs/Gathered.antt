@@ -54,11 +54,3 @@ leads need es (Mileage v) = leb need (holders v es)
 -- where `need` is over half of them no two mileages have it, so that it does not matter where the search begins
 unfoldable pub majority : ℕ → List Estimate → Estimate
 majority need es = firstPassing (leads need es) es
-
--- ---- what inner functions promise, and no public contract says
-
--- the mileage that all so far hold; blank is none so far, with which any mileage agrees
-abbrev pub agrees : Estimate → Estimate → Bool
-agrees Blank e = anyMileage e
-agrees Split e = false
-agrees (Mileage v) e = holds v e

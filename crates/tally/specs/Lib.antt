@@ -4,3 +4,4 @@ pub mod Count
 pub mod Quorum
 pub mod Gathered
 pub mod Tally
+pub mod InnerGathered

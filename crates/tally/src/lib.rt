@@ -9,7 +9,8 @@ ghost use Rattle.tally.specs.Limits.{senders};
 ghost use Rattle.tally.specs.Refusal.{numberOf};
 ghost use Rattle.tally.specs.Quorum.{quorumOf, majorityOf};
 ghost use Rattle.tally.specs.Tally.{isMarked, noMarks, mark, gathered, gatheredFrom};
-ghost use Rattle.tally.specs.Gathered.{anyMileage, holds, holders, common, lowest, leads, firstPassing, majority, agrees};
+ghost use Rattle.tally.specs.Gathered.{anyMileage, holds, holders, common, lowest, leads, firstPassing, majority};
+ghost use Rattle.tally.specs.InnerGathered.{agrees};
 
 // The engines of the scope paper: B after B*-Consensus, R after R*-Consensus.
 pub enum Engine {

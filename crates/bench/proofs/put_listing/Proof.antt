@@ -4,7 +4,7 @@ use native.Mathlib.Omega.{arith}
 use borrow.Author.Needs.{needs}
 use lib.Seq.{length-take-le}
 use Rattle.tally.specs.Limits.{today}
-use Rattle.bench_script.proofs.HeaderLines.{header-range}
+use Rattle.script.proofs.HeaderLines.{header-range}
 use Rattle.bench.proofs.Whole.{listing-long, listing-none, listing-bad, listing-read}
 use Rattle.bench.proofs.put_listing.Statement.{statement}
 use Rattle.bench.proofs.put_listing.Tie as tie

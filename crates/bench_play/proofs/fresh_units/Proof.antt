@@ -10,7 +10,7 @@ use lib.Seq.{take-suc-set, take-all}
 use Rattle.tally.specs.Limits.{senders}
 use Rattle.consensus.specs.Step.{fresh}
 use Rattle.consensus.specs.declared.Unit as U
-use Rattle.bench_script.specs.declared.Header.{Header}
+use Rattle.script.specs.declared.Header.{Header}
 use Rattle.bench_play.specs.Bench.{settingsOf, freshUnits}
 use Rattle.bench_play.proofs.fresh_units.Statement.{statement}
 use Rattle.bench_play.proofs.fresh_units.Tie as tie

@@ -1,9 +1,9 @@
-use mathlib.Core.Path.{sym}
-use native.Mathlib.Omega.{arith}
+use mathlib.Core.Path.{sym, ap}
 use borrow.Author.Needs.{needs}
 use lib.Seq.{length-take-le}
 use Rattle.tally.specs.Limits.{today}
-use Rattle.bench.proofs.Whole.{printed-fits, printed-accepted}
+use Rattle.bench.specs.Listing.{PrintAnswer}
+use Rattle.bench.proofs.Whole.{printed-fits}
 use Rattle.bench_stream.proofs.play.Statement.{statement}
 use Rattle.bench_stream.proofs.play.Tie as tie
 
@@ -13,14 +13,11 @@ play-spec =
     (tie.spec
     (λ c. search needs)
     (λ c κs. search needs)
-    (λ c κs. search needs)
-    (λ c. search needs)
     (λ c. search needs)
     (λ c. search needs)
     (λ c κs. search needs)
-    (λ c. printed-fits today _ _ _ _ _ (c .before .print .ensures))
-    (λ c. sym (length-take-le _ _ (printed-fits today _ _ _ _ _ (c .before .before .print .ensures))))
+    (λ c. printed-fits today _ _ _ _ _ (c .before .before .print .ensures))
+    (λ c. sym (length-take-le _ _ (printed-fits today _ _ _ _ _ (c .before .before .before .print .ensures))))
     (λ c κs. search needs)
-    (λ c.
-    let p = c .before .before .before in
-    printed-accepted today _ _ _ _ _ (omega (arith, p .before .before .before .page .ensures)) (p .print .ensures)))
+    (λ c. search needs)
+    (λ c. (_, ap (λ (p : PrintAnswer). p .out) (c .before .before .before .before .print .ensures))))

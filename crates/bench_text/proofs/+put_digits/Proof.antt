@@ -5,7 +5,7 @@ use native.Mathlib.Omega.{arith}
 use borrow.Author.Needs.{needs}
 use borrow.Fn.Kinds.{In}
 use borrow.Fn.PlainCycle.{Measures, is, falls, and}
-use Rattle.bench_script.specs.Numbers.{digitZero}
+use Rattle.script.specs.Numbers.{digitZero}
 use Rattle.bench_text.specs.Text.{digits}
 use Rattle.bench_text.proofs.Appending.{then, room-first, room-next}
 use Rattle.bench_text.proofs.Digits.{few, many, lower}

@@ -1,6 +1,7 @@
 use borrow.Author.Needs.{needs}
-use Rattle.bench_script.specs.Parts.{newline}
-use Rattle.bench_text.specs.Text.{twoText, endPrefix, endText}
+use Rattle.script.specs.Parts.{newline}
+use Rattle.bench_text.specs.Text.{endPrefix, endText}
+use Rattle.bench_text.specs.InnerText.{twoText}
 use Rattle.bench_text.specs.declared.Shown.{Shown}
 use Rattle.bench_text.proofs.Appending.{then, room-first, room-next}
 use Rattle.bench_text.proofs.put_end.Statement.{statement}

@@ -1,5 +1,6 @@
 use borrow.Author.Needs.{needs}
-use Rattle.bench_text.specs.Text.{headerText, threeText, twoText}
+use Rattle.bench_text.specs.Text.{headerText}
+use Rattle.bench_text.specs.InnerText.{threeText, twoText}
 use Rattle.bench_text.proofs.put_header.Statement.{statement}
 use Rattle.bench_text.proofs.put_header.Tie as tie
 

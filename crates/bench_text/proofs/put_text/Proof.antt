@@ -2,7 +2,7 @@ use Prim.Native.Nat.{_≤_, _-_, _+_}
 use mathlib.Core.Path.{_≡_, refl}
 use borrow.Author.Needs.{needs}
 use lib.ListN.{length, take, length-set}
-use Rattle.bench_text.specs.Text.{Puts}
+use Rattle.bench_text.specs.InnerText.{Puts}
 use Rattle.bench_text.proofs.Appending.{puts-none, puts-more, puts-all}
 use Rattle.bench_text.proofs.put_text.Statement.{statement}
 use Rattle.bench_text.proofs.put_text.Tie as tie

@@ -1,6 +1,7 @@
 use borrow.Author.Needs.{needs}
-use Rattle.bench_script.specs.Parts.{comma}
-use Rattle.bench_text.specs.Text.{fieldText, twoText, threeText}
+use Rattle.script.specs.Parts.{comma}
+use Rattle.bench_text.specs.Text.{fieldText}
+use Rattle.bench_text.specs.InnerText.{twoText, threeText}
 use Rattle.bench_text.proofs.Appending.{then, room-first, room-next}
 use Rattle.bench_text.proofs.put_three.Statement.{statement}
 use Rattle.bench_text.proofs.put_three.Tie as tie

@@ -1,6 +1,7 @@
 use borrow.Author.Needs.{needs}
-use Rattle.bench_script.specs.Parts.{comma}
-use Rattle.bench_text.specs.Text.{fieldText, twoText}
+use Rattle.script.specs.Parts.{comma}
+use Rattle.bench_text.specs.Text.{fieldText}
+use Rattle.bench_text.specs.InnerText.{twoText}
 use Rattle.bench_text.proofs.Appending.{then, room-first, room-next}
 use Rattle.bench_text.proofs.put_two.Statement.{statement}
 use Rattle.bench_text.proofs.put_two.Tie as tie

@@ -3,11 +3,11 @@ use borrow.Author.Needs.{needs}
 use borrow.Author.Tests.{ne-eqb}
 use Rattle.tally.specs.Limits.{today}
 use Rattle.tally.proofs.Bounds.{sane-today}
-use Rattle.codec.specs.Formats.{wrote}
-use Rattle.codec.specs.Logs.{logFormat, logReading, readLog}
-use Rattle.codec.proofs.LogFormat.{lawful}
-use Rattle.fields.specs.Fields.{readLogCall}
-use Rattle.fields.proofs.Calls.{read-accepted, read-refused}
+use Rattle.formats.specs.Formats.{wrote}
+use Rattle.formats.specs.Logs.{logFormat, logReading, readLog}
+use Rattle.formats.proofs.LogFormat.{lawful}
+use Rattle.calls.specs.Fields.{readLogCall}
+use Rattle.calls.proofs.FieldTrips.{read-accepted, read-refused}
 use Rattle.fields.proofs.read_log.Statement.{statement}
 use Rattle.fields.proofs.read_log.Tie as tie
 

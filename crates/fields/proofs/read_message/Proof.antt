@@ -3,11 +3,11 @@ use borrow.Author.Needs.{needs}
 use borrow.Author.Tests.{ne-eqb}
 use Rattle.tally.specs.Limits.{today}
 use Rattle.tally.proofs.Bounds.{sane-today}
-use Rattle.codec.specs.Formats.{wrote}
-use Rattle.codec.specs.Messages.{messageFormat, messageReading, readMessage}
-use Rattle.codec.proofs.MessageFormat.{lawful}
-use Rattle.fields.specs.Fields.{readMessageCall}
-use Rattle.fields.proofs.Calls.{read-accepted, read-refused}
+use Rattle.formats.specs.Formats.{wrote}
+use Rattle.formats.specs.Messages.{messageFormat, messageReading, readMessage}
+use Rattle.formats.proofs.MessageFormat.{lawful}
+use Rattle.calls.specs.Fields.{readMessageCall}
+use Rattle.calls.proofs.FieldTrips.{read-accepted, read-refused}
 use Rattle.fields.proofs.read_message.Statement.{statement}
 use Rattle.fields.proofs.read_message.Tie as tie
 

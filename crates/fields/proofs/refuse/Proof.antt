@@ -1,6 +1,6 @@
 use mathlib.Core.Path.{ap}
 use Rattle.tally.specs.Refusal.{numberOf}
-use Rattle.codec.specs.Formats.{wrote}
+use Rattle.formats.specs.Formats.{wrote}
 use borrow.Author.Needs.{needs}
 use Rattle.fields.proofs.refuse.Statement.{statement}
 use Rattle.fields.proofs.refuse.Tie as tie

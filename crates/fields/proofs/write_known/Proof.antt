@@ -1,9 +1,9 @@
 use mathlib.Core.Path.{sym, ap, _∙_}
 use Rattle.tally.specs.Limits.{today}
 use Rattle.tally.proofs.Bounds.{sane-today}
-use Rattle.codec.specs.Messages.{messageOf, messageFormat, cleared, writeMessage}
-use Rattle.codec.proofs.MessageFormat.{lawful}
-use Rattle.fields.proofs.Calls.{put-checked}
+use Rattle.formats.specs.Messages.{messageOf, messageFormat, cleared, writeMessage}
+use Rattle.formats.proofs.MessageFormat.{lawful}
+use Rattle.calls.proofs.FieldTrips.{put-checked}
 use borrow.Author.Needs.{needs}
 use Rattle.fields.proofs.write_known.Statement.{statement}
 use Rattle.fields.proofs.write_known.Tie as tie

@@ -3,11 +3,12 @@ use borrow.Author.Tests.{eq-eqb, ne-eqb, not-true, not-false}
 use native.Mathlib.Omega.{arith}
 use Rattle.tally.specs.Limits.{today}
 use Rattle.tally.proofs.Bounds.{sane-today}
-use Rattle.codec.specs.Logs.{logOf, logFormat, writeLog}
-use Rattle.codec.proofs.LogFormat.{lawful}
-use Rattle.fields.specs.Fields.{logHead, logNarrow, writeLogCall}
-use Rattle.fields.proofs.Narrow.{log-small, too-large}
-use Rattle.fields.proofs.Calls.{put-checked}
+use Rattle.formats.specs.Logs.{logOf, logFormat, writeLog}
+use Rattle.formats.proofs.LogFormat.{lawful}
+use Rattle.calls.specs.Fields.{writeLogCall}
+use Rattle.calls.specs.InnerFields.{logHead, logNarrow}
+use Rattle.calls.proofs.Narrow.{log-small, too-large}
+use Rattle.calls.proofs.FieldTrips.{put-checked}
 use borrow.Author.Needs.{needs}
 use Rattle.fields.proofs.write_log.Statement.{statement}
 use Rattle.fields.proofs.write_log.Tie as tie

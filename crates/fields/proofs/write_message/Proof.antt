@@ -3,10 +3,11 @@ use borrow.Author.Tests.{eq-eqb, ne-eqb, not-true, not-false}
 use native.Mathlib.Omega.{arith}
 use Rattle.tally.specs.Limits.{today}
 use Rattle.tally.proofs.Bounds.{sane-today}
-use Rattle.codec.specs.Messages.{messageFormat}
-use Rattle.codec.proofs.MessageFormat.{lawful}
-use Rattle.fields.specs.Fields.{messageHead, messageNarrow, writeMessageCall}
-use Rattle.fields.proofs.Narrow.{message-small, too-large}
+use Rattle.formats.specs.Messages.{messageFormat}
+use Rattle.formats.proofs.MessageFormat.{lawful}
+use Rattle.calls.specs.Fields.{writeMessageCall}
+use Rattle.calls.specs.InnerFields.{messageHead, messageNarrow}
+use Rattle.calls.proofs.Narrow.{message-small, too-large}
 use borrow.Author.Needs.{needs}
 use Rattle.fields.proofs.write_message.Statement.{statement}
 use Rattle.fields.proofs.write_message.Tie as tie

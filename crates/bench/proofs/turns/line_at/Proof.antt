@@ -4,7 +4,7 @@ use native.Mathlib.Omega.{arith}
 use borrow.Author.Needs.{needs}
 use lib.ListN.{length, take, drop}
 use lib.Seq.{length-take-le}
-use Rattle.bench.proofs.Lines.{line-ended, line-left}
+use Rattle.bench.proofs.LineEnds.{line-ended, line-left}
 use Rattle.bench.proofs.turns.line_at.Statement.{statement}
 use Rattle.bench.proofs.turns.line_at.Tie as tie
 

@@ -5,7 +5,7 @@ use native.Mathlib.Omega.{arith}
 use borrow.Author.Needs.{needs}
 use lib.ListN.{length}
 use Rattle.tally.specs.Limits.{today, places}
-use Rattle.bench_play.proofs.Rows.{start-sized, answer-kept}
+use Rattle.bench_play.proofs.PlayedLines.{start-sized, answer-kept}
 use Rattle.bench_play.specs.Bench.{start}
 use Rattle.bench.proofs.Rest.{Left, left-start, left-room, left-step, left-end, end-room}
 use Rattle.bench.proofs.turns.put_events.Statement.{statement}

@@ -18,7 +18,7 @@ take-turn-spec =
     let line = a .before .line-at in
     let s = a .before .before .before .before in
     let x = s .args in
-    rw (c .row .ensures, a .answer .ensures)
+    rw (c .listing-line .ensures, a .answer .ensures)
     (turn-room today (x .n) (x .script .now) (x .b) (x .i) (x .p) (line .result .next) (line .result .event) (x .out .now) (x .at)
     (line .ensures .events) (s .pre .1 .1 .1 .1 .1)))
     (λ c. search needs)
@@ -27,5 +27,5 @@ take-turn-spec =
     let a = w .before .before .before in
     let line = a .before .line-at in
     let x = a .before .before .before .before .args in
-    turned today (x .n) (x .script .now) (x .b) (x .i) (x .p) (line .result) (a .answer .result) (w .before .row .result) (line .ensures)
-    (a .answer .ensures) (w .before .row .ensures) (w .put-row .ensures)))
+    turned today (x .n) (x .script .now) (x .b) (x .i) (x .p) (line .result) (a .answer .result) (w .before .listing-line .result) (line .ensures)
+    (a .answer .ensures) (w .before .listing-line .ensures) (w .put-line .ensures)))

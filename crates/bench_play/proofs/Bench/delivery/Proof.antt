@@ -1,13 +1,13 @@
 use borrow.Author.Tests.{le-leb, lt-leb}
-use Rattle.consensus.specs.Rows.{firstOf}
+use Rattle.consensus.specs.Conditions.{firstOf}
 use Rattle.consensus.specs.Methods.{unless}
-use Rattle.bench_play.specs.Play.{deliveryRows, delivery}
+use Rattle.bench_play.specs.Play.{deliveryConditions, delivery}
 use borrow.Author.Needs.{needs}
 use Rattle.bench_play.proofs.Bench.delivery.Statement.{statement}
 use Rattle.bench_play.proofs.Bench.delivery.Tie as tie
 
 pub delivery-spec : {M : Type 1} → statement M
-unfolding delivery deliveryRows unless firstOf
+unfolding delivery deliveryConditions unless firstOf
 delivery-spec =
     tie.close
     (tie.spec

@@ -1,6 +1,6 @@
 use borrow.Author.Needs.{needs}
 use borrow.Author.Tests.{ne-eqb}
-use Rattle.bench_script.specs.Script.{byLetter}
+use Rattle.script.specs.Script.{byLetter}
 use Rattle.bench_script.proofs.events.by_letter.Statement.{statement}
 use Rattle.bench_script.proofs.events.by_letter.Tie as tie
 

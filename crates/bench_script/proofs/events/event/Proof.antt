@@ -5,11 +5,11 @@ use native.Mathlib.Omega.{arith}
 use borrow.Author.Needs.{needs}
 use borrow.Author.Tests.{ne-eqb}
 use lib.ListN.{length, drop, getD}
-use Rattle.bench_script.specs.Parts.{comma, parted}
-use Rattle.bench_script.specs.Script.{byLetter, eventOf}
-use Rattle.bench_script.specs.declared.Event.{Event}
-use Rattle.bench_script.proofs.EventLines.{letter-line, other-line, short-line}
-use Rattle.bench_script.proofs.Parting.{from-there}
+use Rattle.script.specs.Parts.{comma, parted}
+use Rattle.script.specs.Script.{byLetter, eventOf}
+use Rattle.script.specs.declared.ScriptEvent.{ScriptEvent}
+use Rattle.script.proofs.EventLines.{letter-line, other-line, short-line}
+use Rattle.script.proofs.Parting.{from-there}
 use Rattle.bench_script.proofs.events.event.Statement.{statement}
 use Rattle.bench_script.proofs.events.event.Tie as tie
 
@@ -19,7 +19,7 @@ module _ (n : ℕ) where
   lettered (b ∷ []) h e = absurd (omega arith)
   lettered (b ∷ d ∷ s) h e = rw e (sym (letter-line n b s))
 
-  other : (line : List ℕ) → 2 ≤ length line → (getD line 1 0 ≡ comma → ⊥) → Event.Malformed ≡ eventOf n line
+  other : (line : List ℕ) → 2 ≤ length line → (getD line 1 0 ≡ comma → ⊥) → ScriptEvent.Malformed ≡ eventOf n line
   other [] h e = absurd (omega arith)
   other (b ∷ []) h e = absurd (omega arith)
   other (b ∷ d ∷ s) h e = sym (other-line n b d s (ne-eqb d comma e))

@@ -1,7 +1,7 @@
 use mathlib.Core.Path.{_≡_}
 use borrow.Author.Needs.{needs}
 use borrow.Author.Tests.{lt-ltb, le-ltb}
-use Rattle.bench_script.specs.declared.Pair.{Pair}
+use Rattle.script.specs.declared.Pair.{Pair}
 use Rattle.bench_script.proofs.events.pair_below.Statement.{statement}
 use Rattle.bench_script.proofs.events.pair_below.Tie as tie
 

@@ -1,7 +1,7 @@
 use mathlib.Core.Path.{_≡_}
 use borrow.Author.Needs.{needs}
 use borrow.Author.Tests.{lt-ltb, le-ltb}
-use Rattle.bench_script.specs.declared.Number.{Number}
+use Rattle.script.specs.declared.Number.{Number}
 use Rattle.bench_script.proofs.events.unit_below.Statement.{statement}
 use Rattle.bench_script.proofs.events.unit_below.Tie as tie
 

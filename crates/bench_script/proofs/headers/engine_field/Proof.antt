@@ -4,9 +4,9 @@ use mathlib.Core.List.{List, [], _∷_}
 use native.Mathlib.Omega.{arith}
 use borrow.Author.Needs.{needs}
 use lib.ListN.{length, getD}
-use Rattle.codec.specs.Codes.{engineOf}
-use Rattle.codec.specs.declared.EngineRead.{EngineRead}
-use Rattle.bench_script.specs.Script.{emptyEngine, engineField}
+use Rattle.formats.specs.Codes.{engineOf}
+use Rattle.formats.specs.declared.EngineRead.{EngineRead}
+use Rattle.script.specs.Script.{emptyEngine, engineField}
 use Rattle.bench_script.proofs.headers.engine_field.Statement.{statement}
 use Rattle.bench_script.proofs.headers.engine_field.Tie as tie
 

@@ -3,9 +3,10 @@ use mathlib.Core.Path.{sym}
 use borrow.Author.Needs.{needs}
 use lib.ListN.{length}
 use lib.Seq.{length-take-le}
-use Rattle.bench_script.specs.Parts.{comma, before}
-use Rattle.bench_script.specs.Script.{headerOf}
-use Rattle.bench_script.proofs.Parting.{parted-at, parted-none}
+use Rattle.script.specs.Parts.{comma}
+use Rattle.script.specs.InnerParts.{before}
+use Rattle.script.specs.Script.{headerOf}
+use Rattle.script.proofs.Parting.{parted-at, parted-none}
 use Rattle.bench_script.proofs.headers.header.Statement.{statement}
 use Rattle.bench_script.proofs.headers.header.Tie as tie
 

@@ -1,6 +1,6 @@
 use native.Mathlib.Omega.{arith}
 use borrow.Author.Needs.{needs}
-use Rattle.bench_script.proofs.HeaderLines.{ranges}
+use Rattle.script.proofs.HeaderLines.{ranges}
 use Rattle.bench_script.proofs.headers.with_engine.Statement.{statement}
 use Rattle.bench_script.proofs.headers.with_engine.Tie as tie
 

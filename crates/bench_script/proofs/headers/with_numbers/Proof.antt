@@ -1,8 +1,8 @@
 use mathlib.Core.Path.{_≡_}
 use mathlib.Core.Bool.{true, false}
 use borrow.Author.Needs.{needs}
-use Rattle.bench_script.specs.Script.{inRanges}
-use Rattle.bench_script.specs.declared.Pair.{Pair}
+use Rattle.script.specs.Script.{inRanges}
+use Rattle.script.specs.declared.Pair.{Pair}
 use Rattle.bench_script.proofs.headers.with_numbers.Statement.{statement}
 use Rattle.bench_script.proofs.headers.with_numbers.Tie as tie
 

@@ -6,8 +6,8 @@ use mathlib.Core.List.{List}
 use borrow.Author.Needs.{needs}
 use borrow.Author.Tests.{not-true, not-false}
 use lib.ListN.{length, drop, getD, drop-of-length-le}
-use Rattle.codec.proofs.Rows.{drop-step}
-use Rattle.bench_script.specs.Numbers.{isDigit, allDigits}
+use Rattle.formats.proofs.Packed.{drop-step}
+use Rattle.script.specs.Numbers.{isDigit, allDigits}
 use Rattle.bench_script.proofs.numbers.all_digits.Statement.{statement}
 use Rattle.bench_script.proofs.numbers.all_digits.Tie as tie
 

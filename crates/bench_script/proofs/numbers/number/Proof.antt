@@ -6,8 +6,8 @@ use borrow.Author.Needs.{needs}
 use borrow.Author.Tests.{le-leb, lt-leb, not-true, not-false}
 use lib.Dec.{leb}
 use lib.ListN.{length}
-use Rattle.bench_script.specs.Numbers.{maxDigits, maxNumber, allDigits, leadingZero, valueFrom, isNumber, readNumber}
-use Rattle.bench_script.specs.declared.Number.{Number}
+use Rattle.script.specs.Numbers.{maxDigits, maxNumber, allDigits, leadingZero, valueFrom, isNumber, readNumber}
+use Rattle.script.specs.declared.Number.{Number}
 use Rattle.bench_script.proofs.numbers.number.Statement.{statement}
 use Rattle.bench_script.proofs.numbers.number.Tie as tie
 

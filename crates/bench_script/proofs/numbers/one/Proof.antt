@@ -1,6 +1,6 @@
 use mathlib.Core.Path.{sym, _∙_}
 use borrow.Author.Needs.{needs}
-use Rattle.bench_script.proofs.Fields.{one-number}
+use Rattle.script.proofs.Fields.{one-number}
 use Rattle.bench_script.proofs.numbers.one.Statement.{statement}
 use Rattle.bench_script.proofs.numbers.one.Tie as tie
 

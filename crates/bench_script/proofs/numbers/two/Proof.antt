@@ -4,12 +4,13 @@ use mathlib.Core.List.{List}
 use borrow.Author.Needs.{needs}
 use lib.ListN.{length, take, drop}
 use lib.Seq.{length-take-le}
-use Rattle.bench_script.specs.Parts.{comma, parted, before}
-use Rattle.bench_script.specs.Numbers.{readNumber}
-use Rattle.bench_script.specs.Script.{both, twoOf}
-use Rattle.bench_script.specs.declared.Number.{Number}
-use Rattle.bench_script.proofs.Fields.{two-numbers}
-use Rattle.bench_script.proofs.Parting.{parted-at, parted-none}
+use Rattle.script.specs.Parts.{comma, parted}
+use Rattle.script.specs.InnerParts.{before}
+use Rattle.script.specs.Numbers.{readNumber}
+use Rattle.script.specs.Script.{both, twoOf}
+use Rattle.script.specs.declared.Number.{Number}
+use Rattle.script.proofs.Fields.{two-numbers}
+use Rattle.script.proofs.Parting.{parted-at, parted-none}
 use Rattle.bench_script.proofs.numbers.two.Statement.{statement}
 use Rattle.bench_script.proofs.numbers.two.Tie as tie
 

@@ -9,9 +9,9 @@ use native.Mathlib.Omega.{arith}
 use borrow.Author.Needs.{needs}
 use lib.ListN.{length, drop, getD, drop-of-length-le}
 use Rattle.contents.proofs.Tests.{both-true}
-use Rattle.codec.proofs.Rows.{drop-step}
-use Rattle.bench_script.specs.Numbers.{digitZero, digitNine, maxDigits, isDigit, allDigits, valueFrom}
-use Rattle.bench_script.proofs.Fields.{digit-range}
+use Rattle.formats.proofs.Packed.{drop-step}
+use Rattle.script.specs.Numbers.{digitZero, digitNine, maxDigits, isDigit, allDigits, valueFrom}
+use Rattle.script.proofs.Fields.{digit-range}
 use Rattle.bench_script.proofs.numbers.value.Statement.{statement}
 use Rattle.bench_script.proofs.numbers.value.Tie as tie
 

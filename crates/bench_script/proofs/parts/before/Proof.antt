@@ -6,8 +6,8 @@ use native.Mathlib.Omega.{arith}
 use borrow.Author.Needs.{needs}
 use borrow.Author.Tests.{eq-eqb, ne-eqb}
 use lib.ListN.{length, drop, getD, drop-of-length-le}
-use Rattle.codec.proofs.Rows.{drop-step}
-use Rattle.bench_script.specs.Parts.{before}
+use Rattle.formats.proofs.Packed.{drop-step}
+use Rattle.script.specs.InnerParts.{before}
 use Rattle.bench_script.proofs.parts.before.Statement.{statement}
 use Rattle.bench_script.proofs.parts.before.Tie as tie
 

@@ -6,8 +6,8 @@ use native.Mathlib.Omega.{arith}
 use Rattle.tally.specs.Limits.{senders}
 use Rattle.contents.specs.Estimates.{isBlank}
 use Rattle.contents.specs.Images.{every}
-use Rattle.codec.specs.Codes.{estimateOf}
-use Rattle.codec.specs.Numbers.{numAt}
+use Rattle.formats.specs.Codes.{estimateOf}
+use Rattle.formats.specs.Numbers.{numAt}
 use Rattle.codec.proofs.images.blanks_at.Statement.{statement}
 use Rattle.codec.proofs.images.blanks_at.Tie as tie
 

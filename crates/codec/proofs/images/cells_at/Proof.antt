@@ -1,4 +1,4 @@
--- The invariant: what is held of the senders still to come makes the whole row. Assumes nothing.
+-- The invariant: what is held of the senders still to come makes the whole. Assumes nothing.
 use Prim.Native.Nat.{_+_, _*_, _-_, _≤_}
 use mathlib.Core.List.{map}
 use mathlib.Core.Path.{_≡_, refl}
@@ -9,10 +9,11 @@ use lib.Seq.{sets}
 use borrow.Author.Needs.{needs}
 use Rattle.tally.specs.Limits.{senders}
 use Rattle.tally.specs.declared.Tally.{Tally}
-use Rattle.codec.specs.Images.{cellOf, cellWidths, heldFrom}
-use Rattle.codec.specs.Numbers.{unpack}
-use Rattle.codec.proofs.Marked.{held-step}
-use Rattle.codec.proofs.Places.{held-at}
+use Rattle.formats.specs.Images.{cellOf, cellWidths}
+use Rattle.formats.specs.InnerImages.{heldFrom}
+use Rattle.formats.specs.Numbers.{unpack}
+use Rattle.formats.proofs.Marked.{held-step}
+use Rattle.formats.proofs.Places.{held-at}
 use Rattle.codec.proofs.images.cells_at.Statement.{statement}
 use Rattle.codec.proofs.images.cells_at.Tie as tie
 

@@ -1,6 +1,6 @@
 use borrow.Author.Needs.{needs}
 use borrow.Author.Tests.{eq-eqb, ne-eqb}
-use Rattle.codec.specs.Images.{tallyFrom}
+use Rattle.formats.specs.InnerImages.{tallyFrom}
 use Rattle.codec.proofs.images.checks_of.Statement.{statement}
 use Rattle.codec.proofs.images.checks_of.Tie as tie
 

@@ -1,6 +1,6 @@
 use borrow.Author.Needs.{needs}
-use Rattle.codec.specs.Numbers.{numAt}
-use Rattle.codec.proofs.Letters.{blank-number}
+use Rattle.formats.specs.Numbers.{numAt}
+use Rattle.formats.proofs.Letters.{blank-number}
 use Rattle.codec.proofs.images.is_blank_at.Statement.{statement}
 use Rattle.codec.proofs.images.is_blank_at.Tie as tie
 

@@ -1,7 +1,7 @@
 use mathlib.Core.Path.{sym}
 use borrow.Author.Needs.{needs}
 use Rattle.tally.specs.Limits.{today}
-use Rattle.codec.proofs.Marked.{unmarked-place}
+use Rattle.formats.proofs.Marked.{unmarked-place}
 use Rattle.codec.proofs.images.place_at.Statement.{statement}
 use Rattle.codec.proofs.images.place_at.Tie as tie
 

@@ -8,9 +8,9 @@ use Rattle.tally.specs.Limits.{today, senders}
 use Rattle.tally.specs.Tally.{isMarked, placed}
 use Rattle.contents.specs.Estimates.{isBlank}
 use Rattle.contents.specs.Images.{every, placeOk, placesOk}
-use Rattle.codec.specs.Images.{tallyAt}
-use Rattle.codec.proofs.Marked.{blank-places}
-use Rattle.codec.proofs.Places.{placed-at}
+use Rattle.formats.specs.InnerImages.{tallyAt}
+use Rattle.formats.proofs.Marked.{blank-places}
+use Rattle.formats.proofs.Places.{placed-at}
 use Rattle.codec.proofs.images.places_at.Statement.{statement}
 use Rattle.codec.proofs.images.places_at.Tie as tie
 

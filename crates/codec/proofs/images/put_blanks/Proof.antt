@@ -1,13 +1,13 @@
--- The invariant: the blanks still to come make the whole row. Assumes nothing.
+-- The invariant: the blanks still to come make the whole. Assumes nothing.
 use Prim.Native.Nat.{_+_, _*_, _-_, _≤_}
 use mathlib.Core.Path.{_≡_, refl}
 use native.Mathlib.Omega.{arith}
 use lib.ListN.{length, replicate}
 use borrow.Author.Needs.{needs}
 use Rattle.tally.specs.Limits.{senders, blankCode}
-use Rattle.codec.specs.Images.{cellWidths}
-use Rattle.codec.specs.Numbers.{packInto}
-use Rattle.codec.proofs.Rows.{replicate-step}
+use Rattle.formats.specs.Images.{cellWidths}
+use Rattle.formats.specs.InnerNumbers.{packInto}
+use Rattle.formats.proofs.Packed.{replicate-step}
 use Rattle.codec.proofs.images.put_blanks.Statement.{statement}
 use Rattle.codec.proofs.images.put_blanks.Tie as tie
 

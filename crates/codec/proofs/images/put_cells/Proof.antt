@@ -1,4 +1,4 @@
--- The invariant: what is held of the senders still to come makes the whole row. Assumes nothing.
+-- The invariant: what is held of the senders still to come makes the whole. Assumes nothing.
 use Prim.Native.Nat.{_+_, _*_, _-_, _≤_}
 use mathlib.Core.List.{map}
 use mathlib.Core.Path.{_≡_, refl}
@@ -7,10 +7,11 @@ use lib.ListN.{length, replicate}
 use borrow.Author.Needs.{needs}
 use Rattle.tally.specs.Limits.{senders}
 use Rattle.tally.specs.Tally.{held}
-use Rattle.codec.specs.Images.{cellCode, cellWidths, heldFrom}
-use Rattle.codec.specs.Numbers.{packInto}
-use Rattle.codec.proofs.Marked.{held-step}
-use Rattle.codec.proofs.Rows.{replicate-step}
+use Rattle.formats.specs.Images.{cellCode, cellWidths}
+use Rattle.formats.specs.InnerImages.{heldFrom}
+use Rattle.formats.specs.InnerNumbers.{packInto}
+use Rattle.formats.proofs.Marked.{held-step}
+use Rattle.formats.proofs.Packed.{replicate-step}
 use Rattle.codec.proofs.images.put_cells.Statement.{statement}
 use Rattle.codec.proofs.images.put_cells.Tie as tie
 

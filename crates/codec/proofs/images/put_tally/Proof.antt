@@ -1,9 +1,9 @@
 use mathlib.Core.Path.{ap, _∙_}
 use borrow.Author.Needs.{needs}
 use Rattle.tally.specs.declared.Tally.{Tally}
-use Rattle.codec.specs.Images.{tallyWidths, tallyNumbers}
-use Rattle.codec.specs.Numbers.{packInto}
-use Rattle.codec.proofs.Marked.{none-marked}
+use Rattle.formats.specs.Images.{tallyWidths, tallyNumbers}
+use Rattle.formats.specs.InnerNumbers.{packInto}
+use Rattle.formats.proofs.Marked.{none-marked}
 use Rattle.codec.proofs.images.put_tally.Statement.{statement}
 use Rattle.codec.proofs.images.put_tally.Tie as tie
 

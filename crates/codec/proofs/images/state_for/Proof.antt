@@ -1,8 +1,9 @@
 use mathlib.Core.Path.{refl, sym, ap, _∙_}
 use Rattle.tally.specs.Limits.{today}
-use Rattle.codec.specs.Images.{imageOf, imageFormat, readImage, fitState}
-use Rattle.codec.proofs.Places.{fit-checked}
-use Rattle.codec.proofs.Steps.{read-length, read-engine}
+use Rattle.formats.specs.Images.{imageOf, imageFormat, readImage}
+use Rattle.formats.specs.InnerImages.{fitState}
+use Rattle.formats.proofs.Places.{fit-checked}
+use Rattle.formats.proofs.Steps.{read-length, read-engine}
 use borrow.Author.Needs.{needs}
 use Rattle.codec.proofs.images.state_for.Statement.{statement}
 use Rattle.codec.proofs.images.state_for.Tie as tie

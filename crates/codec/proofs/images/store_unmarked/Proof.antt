@@ -2,9 +2,9 @@ use mathlib.Core.Path.{refl, sym, _∙_}
 use borrow.Author.Needs.{needs}
 use Rattle.tally.specs.Limits.{today}
 use Rattle.tally.specs.Tally.{noMarks}
-use Rattle.codec.specs.Images.{imageFormat, imageBytes, withTallies}
-use Rattle.codec.proofs.ImageFormat.{image-stored}
-use Rattle.codec.proofs.Steps.{stored-other, stored-contents}
+use Rattle.formats.specs.Images.{imageFormat, imageBytes, withTallies}
+use Rattle.formats.proofs.ImageFormat.{image-stored}
+use Rattle.formats.proofs.Steps.{stored-other, stored-contents}
 use Rattle.codec.proofs.images.store_unmarked.Statement.{statement}
 use Rattle.codec.proofs.images.store_unmarked.Tie as tie
 

@@ -1,6 +1,6 @@
 use mathlib.Core.Path.{sym, ap, _∙_}
 use borrow.Author.Tests.{eq-eqb, ne-eqb}
-use Rattle.codec.specs.Codes.{engineOf}
+use Rattle.formats.specs.Codes.{engineOf}
 use borrow.Author.Needs.{needs}
 use Rattle.codec.proofs.logs.engine_at.Statement.{statement}
 use Rattle.codec.proofs.logs.engine_at.Tie as tie

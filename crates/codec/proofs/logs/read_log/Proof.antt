@@ -1,9 +1,9 @@
 use mathlib.Core.Path.{refl, sym, ap, _∙_}
 use Rattle.tally.specs.Limits.{today}
 use mathlib.Core.Option.{some}
-use Rattle.codec.specs.Formats.{checked}
-use Rattle.codec.specs.Logs.{logOf, logFormat, readLog}
-use Rattle.codec.proofs.Steps.{read-length, read-engine}
+use Rattle.formats.specs.Formats.{checked}
+use Rattle.formats.specs.Logs.{logOf, logFormat, readLog}
+use Rattle.formats.proofs.Steps.{read-length, read-engine}
 use borrow.Author.Needs.{needs}
 use Rattle.codec.proofs.logs.read_log.Statement.{statement}
 use Rattle.codec.proofs.logs.read_log.Tie as tie

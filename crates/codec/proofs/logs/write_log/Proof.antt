@@ -1,9 +1,9 @@
 use mathlib.Core.Path.{refl, sym, ap, _∙_}
 use borrow.Author.Tests.{eq-eqb, ne-eqb, not-true, not-false}
-use Rattle.codec.specs.Formats.{wrote}
-use Rattle.codec.specs.Logs.{logFormat, writeLog}
+use Rattle.formats.specs.Formats.{wrote}
+use Rattle.formats.specs.Logs.{logFormat, writeLog}
 use Rattle.tally.specs.Limits.{today}
-use Rattle.codec.proofs.Steps.{packed}
+use Rattle.formats.proofs.Steps.{packed}
 use borrow.Author.Needs.{needs}
 use Rattle.codec.proofs.logs.write_log.Statement.{statement}
 use Rattle.codec.proofs.logs.write_log.Tie as tie

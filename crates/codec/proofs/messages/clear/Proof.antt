@@ -8,7 +8,7 @@ use mathlib.Core.List.{_++_, append-nil}
 use mathlib.Core.Path.{_≡_, refl, _∙_}
 use Prim.Native.Nat.{_≤_, _-_}
 use Rattle.tally.specs.Limits.{today, messageSize}
-use Rattle.codec.specs.Messages.{cleared}
+use Rattle.formats.specs.Messages.{cleared}
 use Rattle.codec.proofs.messages.clear.Statement.{statement}
 use Rattle.codec.proofs.messages.clear.Tie as tie
 

@@ -1,6 +1,6 @@
 use mathlib.Core.Path.{sym, _∙_}
 use borrow.Author.Tests.{eq-eqb, ne-eqb}
-use Rattle.codec.specs.Messages.{readMessage}
+use Rattle.formats.specs.Messages.{readMessage}
 use borrow.Author.Needs.{needs}
 use Rattle.codec.proofs.messages.read_message.Statement.{statement}
 use Rattle.codec.proofs.messages.read_message.Tie as tie

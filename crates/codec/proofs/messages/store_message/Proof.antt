@@ -1,7 +1,7 @@
 use mathlib.Core.Path.{refl, sym, _∙_}
 use Rattle.tally.specs.Limits.{today}
-use Rattle.codec.specs.Messages.{messageFormat}
-use Rattle.codec.proofs.Steps.{packed, stored-other, stored-contents}
+use Rattle.formats.specs.Messages.{messageFormat}
+use Rattle.formats.proofs.Steps.{packed, stored-other, stored-contents}
 use borrow.Author.Needs.{needs}
 use Rattle.codec.proofs.messages.store_message.Statement.{statement}
 use Rattle.codec.proofs.messages.store_message.Tie as tie

@@ -3,11 +3,11 @@ use Rattle.tally.specs.declared.Refusal.the-variants.{Length, Message}
 use mathlib.Core.Path.{refl, sym, ap, _∙_}
 use lib.ListN.{length}
 use borrow.Author.Tests.{eq-eqb, ne-eqb, not-true, not-false}
-use Rattle.codec.specs.Formats.{wrote}
-use Rattle.codec.specs.Messages.{messageFormat, writeMessage}
+use Rattle.formats.specs.Formats.{wrote}
+use Rattle.formats.specs.Messages.{messageFormat, writeMessage}
 use Rattle.tally.specs.Limits.{today}
-use Rattle.codec.proofs.Steps.{packed}
-use Rattle.codec.proofs.Cleared.{length-cleared}
+use Rattle.formats.proofs.Steps.{packed}
+use Rattle.formats.proofs.Cleared.{length-cleared}
 use borrow.Author.Needs.{needs}
 use Rattle.codec.proofs.messages.write_message.Statement.{statement}
 use Rattle.codec.proofs.messages.write_message.Tie as tie

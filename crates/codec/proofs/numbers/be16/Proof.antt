@@ -1,6 +1,6 @@
 use native.Mathlib.Nat.{add-zero}
 use native.Mathlib.Omega.{arith}
-use Rattle.codec.specs.Numbers.{numAt}
+use Rattle.formats.specs.Numbers.{numAt}
 use borrow.Author.Needs.{needs}
 use Rattle.codec.proofs.numbers.be16.Statement.{statement}
 use Rattle.codec.proofs.numbers.be16.Tie as tie

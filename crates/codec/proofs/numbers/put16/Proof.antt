@@ -1,6 +1,6 @@
 use native.Mathlib.Numerals.{towards-suc}
 use lib.ListN.{length-set}
-use Rattle.codec.specs.Numbers.{bytesOf}
+use Rattle.formats.specs.Numbers.{bytesOf}
 use native.Mathlib.Omega.{arith}
 use borrow.Author.Needs.{needs}
 use Rattle.codec.proofs.numbers.put16.Statement.{statement}

@@ -1,5 +1,5 @@
 use native.Mathlib.Nat.{mod-eq-of-lt}
-use Rattle.codec.specs.Numbers.{bytesOf}
+use Rattle.formats.specs.Numbers.{bytesOf}
 use borrow.Author.Needs.{needs}
 use Rattle.codec.proofs.numbers.put8.Statement.{statement}
 use Rattle.codec.proofs.numbers.put8.Tie as tie

@@ -1,13 +1,14 @@
 use mathlib.Core.Path.{sym, _∙_}
 use borrow.Author.Tests.{not-false}
-use Rattle.consensus.specs.Rows.{firstOf}
-use Rattle.consensus.specs.Methods.{deliverRows, unless, deliverRead, deliver}
+use Rattle.consensus.specs.Conditions.{firstOf}
+use Rattle.consensus.specs.Methods.{deliverConditions, unless, deliver}
+use Rattle.consensus.specs.InnerMethods.{deliverRead}
 use borrow.Author.Needs.{needs}
 use Rattle.consensus.proofs.Unit.deliver.Statement.{statement}
 use Rattle.consensus.proofs.Unit.deliver.Tie as tie
 
 pub deliver-spec : {M : Type 1} → statement M
-unfolding deliver deliverRows unless firstOf deliverRead
+unfolding deliver deliverConditions unless firstOf deliverRead
 deliver-spec =
     tie.close
     (tie.spec

@@ -1,8 +1,9 @@
 use native.Mathlib.Omega.{arith}
 use Rattle.tally.specs.Limits.{today}
 use Rattle.contents.proofs.Facts.{message-facts}
-use Rattle.consensus.specs.Rows.{firstOf}
-use Rattle.consensus.specs.Methods.{unless, deliverRead}
+use Rattle.consensus.specs.Conditions.{firstOf}
+use Rattle.consensus.specs.Methods.{unless}
+use Rattle.consensus.specs.InnerMethods.{deliverRead}
 use borrow.Author.Needs.{needs}
 use Rattle.consensus.proofs.Unit.deliver_read.Statement.{statement}
 use Rattle.consensus.proofs.Unit.deliver_read.Tie as tie

@@ -1,11 +1,11 @@
-use Rattle.consensus.specs.Rows.{firstOf}
-use Rattle.consensus.specs.Methods.{proposeRows, unless, propose}
+use Rattle.consensus.specs.Conditions.{firstOf}
+use Rattle.consensus.specs.Methods.{proposeConditions, unless, propose}
 use borrow.Author.Needs.{needs}
 use Rattle.consensus.proofs.Unit.propose.Statement.{statement}
 use Rattle.consensus.proofs.Unit.propose.Tie as tie
 
 pub propose-spec : {M : Type 1} → statement M
-unfolding propose proposeRows unless firstOf
+unfolding propose proposeConditions unless firstOf
 propose-spec =
     tie.close
     (tie.spec

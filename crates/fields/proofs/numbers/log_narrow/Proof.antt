@@ -1,4 +1,4 @@
-use Rattle.fields.specs.Fields.{logNarrow}
+use Rattle.calls.specs.InnerFields.{logNarrow}
 use borrow.Author.Needs.{needs}
 use Rattle.fields.proofs.numbers.log_narrow.Statement.{statement}
 use Rattle.fields.proofs.numbers.log_narrow.Tie as tie

@@ -1,6 +1,6 @@
 use Rattle.tally.specs.Limits.{today}
 use native.Mathlib.Omega.{arith}
-use Rattle.fields.proofs.Narrow.{log-small}
+use Rattle.calls.proofs.Narrow.{log-small}
 use borrow.Author.Needs.{needs}
 use Rattle.fields.proofs.numbers.log_of.Statement.{statement}
 use Rattle.fields.proofs.numbers.log_of.Tie as tie

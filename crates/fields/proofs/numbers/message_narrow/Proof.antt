@@ -1,4 +1,4 @@
-use Rattle.fields.specs.Fields.{messageNarrow}
+use Rattle.calls.specs.InnerFields.{messageNarrow}
 use borrow.Author.Needs.{needs}
 use Rattle.fields.proofs.numbers.message_narrow.Statement.{statement}
 use Rattle.fields.proofs.numbers.message_narrow.Tie as tie

@@ -1,6 +1,6 @@
 use Rattle.tally.specs.Limits.{today}
 use native.Mathlib.Omega.{arith}
-use Rattle.fields.proofs.Narrow.{message-small}
+use Rattle.calls.proofs.Narrow.{message-small}
 use borrow.Author.Needs.{needs}
 use Rattle.fields.proofs.numbers.message_of.Statement.{statement}
 use Rattle.fields.proofs.numbers.message_of.Tie as tie

@@ -1,7 +1,7 @@
 use native.Mathlib.Omega.{arith}
 use lib.ListN.{length-set}
-use Rattle.fields.proofs.Calls.{stored}
-use Rattle.codec.specs.Logs.{logNumbers}
+use Rattle.calls.proofs.FieldTrips.{stored}
+use Rattle.formats.specs.Logs.{logNumbers}
 use borrow.Author.Needs.{needs}
 use Rattle.fields.proofs.numbers.put_log.Statement.{statement}
 use Rattle.fields.proofs.numbers.put_log.Tie as tie

@@ -1,7 +1,7 @@
 use native.Mathlib.Omega.{arith}
 use lib.ListN.{length-set}
-use Rattle.fields.proofs.Calls.{stored}
-use Rattle.codec.specs.Messages.{messageNumbers}
+use Rattle.calls.proofs.FieldTrips.{stored}
+use Rattle.formats.specs.Messages.{messageNumbers}
 use borrow.Author.Needs.{needs}
 use Rattle.fields.proofs.numbers.put_message.Statement.{statement}
 use Rattle.fields.proofs.numbers.put_message.Tie as tie

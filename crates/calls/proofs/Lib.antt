@@ -1,0 +1,10 @@
+pub mod FieldTrips
+pub mod Narrow
+pub mod Refusals
+pub mod Entries
+pub mod Held
+pub mod Encoded
+pub mod Stored
+pub mod Unwritten
+pub mod Unread
+pub mod Examples

@@ -1,7 +1,0 @@
-pub mod Numbers
-pub mod Formats
-pub mod RoundTrip
-pub mod Codes
-pub mod Logs
-pub mod Messages
-pub mod Images

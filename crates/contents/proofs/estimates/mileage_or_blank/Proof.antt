@@ -1,8 +1,0 @@
-use Rattle.contents.specs.Estimates.{mileageOrBlank}
-use borrow.Author.Needs.{needs}
-use Rattle.contents.proofs.estimates.mileage_or_blank.Statement.{statement}
-use Rattle.contents.proofs.estimates.mileage_or_blank.Tie as tie
-
-pub mileage-or-blank-spec : {M : Type 1} → statement M
-unfolding mileageOrBlank
-mileage-or-blank-spec = tie.close (tie.spec (λ c κs. search needs) (λ c κs. search needs) (λ c. cc))

@@ -1,8 +1,0 @@
-use Rattle.contents.specs.Estimates.{sameMileage}
-use borrow.Author.Needs.{needs}
-use Rattle.contents.proofs.estimates.same_mileage.Statement.{statement}
-use Rattle.contents.proofs.estimates.same_mileage.Tie as tie
-
-pub same-mileage-spec : {M : Type 1} → statement M
-unfolding sameMileage
-same-mileage-spec = tie.close (tie.spec (λ c κs. search needs) (λ c κs. search needs) (λ c. cc))

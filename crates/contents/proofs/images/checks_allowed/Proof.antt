@@ -1,8 +1,0 @@
-use Rattle.contents.specs.Images.{checksAllowed}
-use borrow.Author.Needs.{needs}
-use Rattle.contents.proofs.images.checks_allowed.Statement.{statement}
-use Rattle.contents.proofs.images.checks_allowed.Tie as tie
-
-pub checks-allowed-spec : {M : Type 1} → statement M
-unfolding checksAllowed
-checks-allowed-spec = tie.close (tie.spec (λ c κs. search needs) (λ c κs. search needs) (λ c. cc))

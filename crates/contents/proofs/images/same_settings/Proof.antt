@@ -1,8 +1,0 @@
-use Rattle.contents.specs.Images.{sameSettings}
-use borrow.Author.Needs.{needs}
-use Rattle.contents.proofs.images.same_settings.Statement.{statement}
-use Rattle.contents.proofs.images.same_settings.Tie as tie
-
-pub same-settings-spec : {M : Type 1} → statement M
-unfolding sameSettings
-same-settings-spec = tie.close (tie.spec (λ c κs. search needs) (λ c. cc))

@@ -1,8 +1,0 @@
-use Rattle.contents.specs.Messages.{checkOk}
-use borrow.Author.Needs.{needs}
-use Rattle.contents.proofs.messages.check_ok.Statement.{statement}
-use Rattle.contents.proofs.messages.check_ok.Tie as tie
-
-pub check-ok-spec : {M : Type 1} → statement M
-unfolding checkOk
-check-ok-spec = tie.close (tie.spec (λ c κs. search needs) (λ c κs. search needs) (λ c. cc))

@@ -1,8 +1,0 @@
-use Rattle.contents.specs.Messages.{firstOk}
-use borrow.Author.Needs.{needs}
-use Rattle.contents.proofs.messages.first_ok.Statement.{statement}
-use Rattle.contents.proofs.messages.first_ok.Tie as tie
-
-pub first-ok-spec : {M : Type 1} → statement M
-unfolding firstOk
-first-ok-spec = tie.close (tie.spec (λ c κs. search needs) (λ c. cc))

@@ -1,0 +1,10 @@
+pub mod Packed
+pub mod Steps
+pub mod RoundTrips
+pub mod Letters
+pub mod LogFormat
+pub mod MessageFormat
+pub mod ImageFormat
+pub mod Marked
+pub mod Places
+pub mod Cleared

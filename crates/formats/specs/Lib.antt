@@ -1,0 +1,11 @@
+pub mod Numbers
+pub mod Formats
+pub mod RoundTrip
+pub mod Codes
+pub mod Logs
+pub mod Messages
+pub mod Images
+pub mod InnerNumbers
+pub mod InnerLogs
+pub mod InnerMessages
+pub mod InnerImages
