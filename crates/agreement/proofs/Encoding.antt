@@ -123,13 +123,13 @@ abbrev pub Follows : Limits → ℕ → ByteWorld → ContentsWorld → Type 0
 Follows l n b w = Encodes l n b w ⊎ ((e : C.ContentsEvent) × Encodes l n b (C.step l n w e))
 
 -- a refused call leaves log and image as they were
-record Unchanged (old-log old-image : List ℕ) (c : CallAnswer) : Type 0 where
+record BytesStay (old-log old-image : List ℕ) (c : CallAnswer) : Type 0 where
   number : eqb (c .number) 0 ≡ false
   log : c .log ≡ old-log
   image : c .image ≡ old-image
 
 unchanged : (l : Limits) (cs : List Condition) (log image out : List ℕ) (c : CallAnswer) → Refusing l cs log image out c → eqb (c .number) 0 ≡ false
-    → Unchanged log image c
+    → BytesStay log image c
 unchanged l cs log image out c r e =
     let same = r .refused (eqb-false (c .number) 0 e) in
     record { number = e; log = ap (λ (x : CallAnswer). x .log) same; image = ap (λ (x : CallAnswer). x .image) same }
@@ -155,7 +155,7 @@ module _ (l : Limits) (sane : Sane l) (n : ℕ) (b : ByteWorld) (w : ContentsWor
     encodes-cut = rw (eq-eqb (numberOf (a .refusal)) 0 number, on) (encodes-change l n b w enc u _ _ (λ h. refl))
 
   -- a refused call leaves all units with their bytes
-  module _ (on : w .units u .power ≡ Up) (c : CallAnswer) (kept : Unchanged (logBytes l (unitLog (w .units u))) (imageBytes l (unitImage (w .units u))) c) where
+  module _ (on : w .units u .power ≡ Up) (c : CallAnswer) (kept : BytesStay (logBytes l (unitLog (w .units u))) (imageBytes l (unitImage (w .units u))) c) where
     encodes-up : Encodes l n (change b u (up (c .log) (c .image))) w
     encodes-up = encodes-same l n b w enc u (up (c .log) (c .image)) (λ h. rw (kept .log, kept .image, on))
 
@@ -176,7 +176,7 @@ module _ (l : Limits) (n : ℕ) (w : ContentsWorld) (cs : List Condition) (log i
     (law : Refusing l cs log image out c) (a : Answer)
     (same : NoneHolds cs → c ≡ answered l a) (f : CallAnswer → ByteWorld) where
   follow : (e : C.ContentsEvent) → (numberOf (a .refusal) ≡ 0 → Encodes l n (f (answered l a)) (C.step l n w e))
-      → (Unchanged log image c → Encodes l n (f c) w)
+      → (BytesStay log image c → Encodes l n (f c) w)
       → Follows l n (f c) w
   follow e accepted refused = go (eqb (c .number) 0) refl
     where
@@ -223,7 +223,7 @@ module _ (l : Limits) (sane : Sane l) (n : ℕ) (b : ByteWorld) (w : ContentsWor
           numberOf (D.deliver l (w .units u) m .refusal) ≡ 0 → Encodes l n (f (answered l (D.deliver l (w .units u) m))) (C.step l n w e)
 
       -- a delivery or a cut of it
-      on-message : (f : CallAnswer → ByteWorld) (e : C.ContentsEvent) → Delivers f e → ((c : CallAnswer) → Unchanged log image c → Encodes l n (f c) w)
+      on-message : (f : CallAnswer → ByteWorld) (e : C.ContentsEvent) → Delivers f e → ((c : CallAnswer) → BytesStay log image c → Encodes l n (f c) w)
           → Follows l n (f (deliverCall l log image (sentBytes l m) out)) w
       unfolding deliverCallConditions
       on-message f e accepted refused =

@@ -25,7 +25,7 @@ use Rattle.consensus.specs.Step.{emptyMessage, fresh, proposed}
 use Rattle.consensus.specs.Units.{WellFormed, atLog}
 use Rattle.consensus.specs.declared.Answer.{Answer}
 use Rattle.consensus.specs.declared.Unit as U
-use Rattle.agreement.specs.Contents.{ContentsWorld, ContentsEvent, proposal, delivery, cut, off, on, eventUnit, begun, unlessEmpty, accepted, after}
+use Rattle.agreement.specs.Contents.{ContentsWorld, ContentsEvent, proposal, delivery, cut, off, on, contentsUnit, begun, unlessEmpty, isAccepted, after}
 use Rattle.agreement.specs.Contents.{afterCut, afterProposal, delivering, apply, step, view, AgreedContents}
 use Rattle.agreement.specs.Worlds.{Setup, settingsOf, Proposal, Decision, put, change, keep, report, decision, run, Given, Locked, Many, Seconded}
 use Rattle.consensus.proofs.Answers.{propose-keeps}
@@ -85,8 +85,8 @@ when-decided P u r Split h = tt
 when-decided P u r (Mileage v) h = h
 
 -- the world after an answer, field by field
-abbrev pub answered : ContentsWorld → List Proposal → ℕ → ℕ → Answer → ContentsWorld
-answered w ps u r a =
+abbrev pub answerAdded : ContentsWorld → List Proposal → ℕ → ℕ → Answer → ContentsWorld
+answerAdded w ps u r a =
     record {
       units = put (w .units) u (a .unit);
       sent = added (w .sent) (unlessEmpty (a .message .kind) (a .message));
@@ -94,7 +94,7 @@ answered w ps u r a =
       decided = added (w .decided) (decision u r (a .decision));
     }
 
-pub after-is : (w : ContentsWorld) (u r : ℕ) (a : Answer) → after w u r a ≡ answered w (w .proposed) u r a
+pub after-is : (w : ContentsWorld) (u r : ℕ) (a : Answer) → after w u r a ≡ answerAdded w (w .proposed) u r a
 unfolding after
 after-is w u r a = go (unlessEmpty (a .message .kind) (a .message)) (decision u r (a .decision))
   where
@@ -166,7 +166,7 @@ module _ (l : Limits) (c : Setup) (w : ContentsWorld) (inv : Inv l c w) where
           go (inr f) = subst (λ s. From l s (a .message)) settings f
 
     after-next : (ps : List Proposal) → ((v : ℕ) → A v → Proposed ps v) → (r : ℕ) (a : Answer) → Sound l (w .units u) a
-        → Good c X (Proposed ps) u r a → Of A (a .decision) → Next l c w (answered w ps u r a)
+        → Good c X (Proposed ps) u r a → Of A (a .decision) → Next l c w (answerAdded w ps u r a)
     after-next ps more r a sound good given =
         record {
           inv =
@@ -212,7 +212,7 @@ module _ (l : Limits) (c : Setup) (w : ContentsWorld) (inv : Inv l c w) where
     proposal-next : (v : ℕ) → Next l c w (afterProposal w u v (propose l (w .units u) v))
     unfolding afterProposal
     proposal-next v =
-        if (accepted a)
+        if (isAccepted a)
         (λ h. rw (after-is w u 0 a)
         (after-next (w .proposed ++ (p ∷ [])) more 0 a (sound-propose l (w .units u) v (here .well-formed))
         (good-propose c X _ u 0 (w .units u) (fair-up c (λ m h. h) more (w .units u) (here .fair)) (here .kept) l v
@@ -244,10 +244,10 @@ module _ (l : Limits) (c : Setup) (w : ContentsWorld) (inv : Inv l c w) where
       cut-next : Next l c w (afterCut w u (deliver l (w .units u) m))
       unfolding afterCut
       cut-next =
-          if (accepted (deliver l (w .units u) m))
+          if (isAccepted (deliver l (w .units u) m))
           (λ h. off-next (deliver l (w .units u) m .unit) (member A (m .round) (w .units u) (here .settings) _ sound good))
 
-  apply-next : (e : ContentsEvent) → eventUnit e < c .n → Next l c w (apply l w e)
+  apply-next : (e : ContentsEvent) → contentsUnit e < c .n → Next l c w (apply l w e)
   unfolding apply delivering
   apply-next (proposal u v) b = proposal-next u (inv .units u b) v
   apply-next (delivery u k) b =
@@ -259,7 +259,7 @@ module _ (l : Limits) (c : Setup) (w : ContentsWorld) (inv : Inv l c w) where
 
   step-next : (e : ContentsEvent) → Next l c w (step l (c .n) w e)
   unfolding step
-  step-next e = if (ltb (eventUnit e) (c .n)) (λ h. apply-next e (ltb-true _ _ h))
+  step-next e = if (ltb (contentsUnit e) (c .n)) (λ h. apply-next e (ltb-true _ _ h))
 
 -- ---- the invariant over a history
 

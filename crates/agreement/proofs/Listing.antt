@@ -83,7 +83,7 @@ abbrev log-0 : List ℕ
 log-0 = log letterB 3 0 0 m m m
 
 -- five messages, F, C, C, S, S, of which the cut sent none; a decision by unit 2 in round 0; unit 0 up again, with its log's image
-pub record Listed (w : ByteWorld) : Type 0 where
+pub record OfListing (w : ByteWorld) : Type 0 where
   pub sent : w .sent
       ≡ message F letterB 3 0 255 0 m m
       ∷ message C letterB 3 0 255 0 m m
@@ -129,7 +129,7 @@ pub record Majority (w : ByteWorld) : Type 0 where
 -- ---- both
 
 -- all starts are accepted
-pub computed : (starts of3 ≡ replicate 3 0) × (Listed (after′ of3 listing) × ((starts of4 ≡ replicate 4 0) × Majority (after′ of4 of-r)))
+pub computed : (starts of3 ≡ replicate 3 0) × (OfListing (after′ of3 listing) × ((starts of4 ≡ replicate 4 0) × Majority (after′ of4 of-r)))
 unfolding ones holders allHold common firstPassing leads majority noMarks mark gatheredFrom gathered
     mileageOrBlank mileageOrSplit secondFits sameMileage stateOk logOk every placeOk placesOk tallyOk checksAllowed imageOk sameSettings stateFits fits
     firstOk checkOk secondOk skipOk kindOk messageOk numAt bytesOf readLog readMessage cleared readImage imageBytes firstOf atLog downUnit says logWrite

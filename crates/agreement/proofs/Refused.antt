@@ -29,8 +29,8 @@ use Rattle.agreement.specs.Encoded.{unitBytesAt, Encodes}
 use Rattle.agreement.proofs.Encoding.{Valid, encodes-same}
 
 -- a buffer at exit holds what it held, or that cleared
-abbrev Stays : Limits → ByteWorld → Exit → Type 0
-Stays l b x = (x .bytes ≡ lentBytes b (x .lent)) ⊎ (x .bytes ≡ cleared l (lentBytes b (x .lent)))
+abbrev ExitStays : Limits → ByteWorld → Exit → Type 0
+ExitStays l b x = (x .bytes ≡ lentBytes b (x .lent)) ⊎ (x .bytes ≡ cleared l (lentBytes b (x .lent)))
 
 -- of reading and writing fields: where an answer is refused, `kept` stands in the buffer
 kept-out : (a c : Bool) (done kept : List ℕ) (j k : ℕ) → (cond a (cond c (wrote 0 done) (wrote j kept)) (wrote k kept) .number ≡ 0 → ⊥)
@@ -50,12 +50,12 @@ module _ {A : Type 0} (f : Format A) where
 module _ (l : Limits) (b : ByteWorld) where
   -- of the calls of a unit
   unit-stays : (cs : List Condition) (log image out : Lent) (c : CallAnswer) → Refusing l cs (lentBytes b log) (lentBytes b image) (lentBytes b out) c
-      → (c .number ≡ 0 → ⊥) → Each (Stays l b) (ended c log image out .exits)
+      → (c .number ≡ 0 → ⊥) → Each (ExitStays l b) (ended c log image out .exits)
   unit-stays cs log image out c law n =
       let same = law .refused n in
       (inl (ap (λ (r : CallAnswer). r .log) same), (inl (ap (λ (r : CallAnswer). r .image) same), (inr (ap (λ (r : CallAnswer). r .out) same), tt)))
 
-  call-stays : (c : Call) → (runCall l b c .number ≡ 0 → ⊥) → Each (Stays l b) (runCall l b c .exits)
+  call-stays : (c : Call) → (runCall l b c .number ≡ 0 → ⊥) → Each (ExitStays l b) (runCall l b c .exits)
   unfolding runCall readLogCall readMessageCall writeLogCall writeMessageCall
   call-stays (starts engine n unit entry log image) h = unit-stays _ log image (other []) _ (start-refusing l engine n unit entry _ _) h
   call-stays (keysOn log image) h = unit-stays _ log image (other []) _ (key-on-refusing l _ _) h

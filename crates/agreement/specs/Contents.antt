@@ -26,12 +26,12 @@ pub data ContentsEvent : Type 0 where
   delivery cut : ℕ → ℕ → ContentsEvent
   off on : ℕ → ContentsEvent
 
-abbrev pub eventUnit : ContentsEvent → ℕ
-eventUnit (proposal u v) = u
-eventUnit (delivery u k) = u
-eventUnit (cut u k) = u
-eventUnit (off u) = u
-eventUnit (on u) = u
+abbrev pub contentsUnit : ContentsEvent → ℕ
+contentsUnit (proposal u v) = u
+contentsUnit (delivery u k) = u
+contentsUnit (cut u k) = u
+contentsUnit (off u) = u
+contentsUnit (on u) = u
 
 -- at its start each of the units has been started once; all are up and nothing is sent
 unfoldable pub begun : Setup → ContentsWorld
@@ -45,8 +45,8 @@ unlessEmpty Check m = some m
 unlessEmpty Second m = some m
 unlessEmpty Skip m = some m
 
-abbrev pub accepted : Answer → Bool
-accepted a = eqb (numberOf (a .refusal)) 0
+abbrev pub isAccepted : Answer → Bool
+isAccepted a = eqb (numberOf (a .refusal)) 0
 
 -- the unit, message and decision that a step of unit u in round r answered; a refusal's answer changes nothing
 unfoldable pub after : ContentsWorld → ℕ → ℕ → Answer → ContentsWorld
@@ -54,10 +54,10 @@ after w u r a = report (keep (change w u (a .unit)) (unlessEmpty (a .message .ki
 
 -- a cut: the log is the unit's from now on; image, message and decision are lost and the unit is down
 unfoldable pub afterCut : ContentsWorld → ℕ → Answer → ContentsWorld
-afterCut w u a = cond (accepted a) (change w u (keyOff (a .unit) .unit)) w
+afterCut w u a = cond (isAccepted a) (change w u (keyOff (a .unit) .unit)) w
 
 unfoldable pub afterProposal : ContentsWorld → ℕ → ℕ → Answer → ContentsWorld
-afterProposal w u v a = cond (accepted a) (give (after w u 0 a) (record { unit = u; mileage = v })) w
+afterProposal w u v a = cond (isAccepted a) (give (after w u 0 a) (record { unit = u; mileage = v })) w
 
 -- a delivery and a cut of it are the same call, and f is what the event makes of the message and the answer; with a message number not
 -- yet sent everything stays as it was
@@ -74,7 +74,7 @@ apply l w (on u) = change w u (keyOn (w .units u) .unit)
 
 -- units are numbered 0 to n − 1
 unfoldable pub step : Limits → ℕ → ContentsWorld → ContentsEvent → ContentsWorld
-step l n w e = cond (ltb (eventUnit e) n) (apply l w e) w
+step l n w e = cond (ltb (contentsUnit e) n) (apply l w e) w
 
 abbrev pub view : View U.Unit Message
 view =

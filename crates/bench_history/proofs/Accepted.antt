@@ -26,7 +26,7 @@ use Rattle.bench_play.specs.Claims.{Sized}
 use Rattle.bench_play.specs.Play.{Played, delivery, cutShort, unitAnswer}
 use Rattle.bench_play.specs.declared.Bench.{Bench}
 use Rattle.bench_play.proofs.Accepting.{Accepts, delivered, cut-accepted, off-accepted, on-accepted}
-use Rattle.bench_history.specs.History.{contentsEvent, proposalOf, decidedOf, withoutRound, Shows}
+use Rattle.bench_history.specs.History.{contentsEvent, eventProposals, decidedOf, withoutRound, Shows}
 use Rattle.bench_history.proofs.Lists.{at-taken}
 
 -- from w to w′: unit u is its answer's, whose message, if any, is sent and whose decision, if any, reported; ps are proposed
@@ -102,7 +102,7 @@ module _ (l : Limits) (n : ℕ) (b : Bench) (sized : Sized b) (lines : List Play
 
   -- the event runs as the bench's unit answers
   pub went : (e : ScriptEvent) → eventUnit e < n → Accepts (unitAnswer l b e)
-      → Went w (run (step l n) w (contentsEvent e)) (proposalOf e) (eventUnit e) (unitAnswer l b e)
+      → Went w (run (step l n) w (contentsEvent e)) (eventProposals e) (eventUnit e) (unitAnswer l b e)
   unfolding unitAnswer run step apply
   went ScriptEvent.Malformed below zero = absurd (omega (arith, zero))
   went (ScriptEvent.Propose u v) below zero =

@@ -39,7 +39,7 @@ use Rattle.bench_play.specs.Bench.{start, unitAt, messageAt}
 use Rattle.bench_play.specs.Play.{Played, delivery, answer, play, unitAnswer}
 use Rattle.bench_play.specs.declared.Bench.{Bench}
 use Rattle.bench_play.specs.Claims.{Sized}
-use Rattle.bench_history.specs.History.{setupOf, Below, isAccepted, ofAccepted, contentsEvent, zeros, byteEvent, history, byteHistory, Shows}
+use Rattle.bench_history.specs.History.{setupOf, Below, lineAccepted, ofAccepted, contentsEvent, zeros, byteEvent, history, byteHistory, Shows}
 use Rattle.bench_history.specs.History.{contentsAfter, startLog, startImage, startBytes, bytesAfter}
 use Rattle.bench_play.proofs.Accepting.{Accepts, proposal-up, delivered, cut-accepted, on-accepted, accepts}
 use Rattle.bench_history.proofs.Accepted.{sent-at as bench-sent}
@@ -173,7 +173,7 @@ module _ (l : Limits) (sane : Sane l) (s : Setup) (high : s .n ≤ senders) wher
 lawful : (l : Limits) (n : ℕ) (lines : List Played) (c : B.ByteWorld) → B.Lawful l n c (flatMap (ofAccepted (byteEvent l)) lines)
 unfolding flatMap
 lawful l n [] c = tt
-lawful l n (p ∷ lines) c = go (isAccepted (p .answer)) (p .event) (lawful l n lines)
+lawful l n (p ∷ lines) c = go (lineAccepted (p .answer)) (p .event) (lawful l n lines)
   where
     go : (t : Bool) (e : ScriptEvent) → ((c : B.ByteWorld) → B.Lawful l n c (flatMap (ofAccepted (byteEvent l)) lines))
         → B.Lawful l n c (cond t (byteEvent l e) [] ++ flatMap (ofAccepted (byteEvent l)) lines)

@@ -18,7 +18,7 @@ use Rattle.bench_play.specs.Bench.{start}
 use Rattle.bench_play.specs.Play.{Played, answer, play, benchAfter}
 use Rattle.bench_play.specs.declared.Bench.{Bench}
 use Rattle.bench_history.specs.Covered.{ProposedIn}
-use Rattle.bench_history.specs.History.{setupOf, Below, isAccepted, ofAccepted, contentsEvent, proposalOf, proposals, Decided, decidedOf, decisions}
+use Rattle.bench_history.specs.History.{setupOf, Below, lineAccepted, ofAccepted, contentsEvent, eventProposals, proposals, Decided, decidedOf, decisions}
 use Rattle.bench_history.specs.History.{withoutRound, Shows, contentsAfter}
 use Rattle.bench_history.proofs.Lists.{flat-in, flat-from}
 use Rattle.bench_play.proofs.PlayedLines.{played, reached-sized}
@@ -42,11 +42,11 @@ shown-decided n b lines w shows p here v e =
     (d .0, (d .1, ap (λ (x : Decided). x .mileage) (d .2)))
 
 -- a proposal of the world is on an accepted line
-of-proposal : (p : Played) (q : Proposal) → List·Memᴰ q (ofAccepted proposalOf p)
+of-proposal : (p : Played) (q : Proposal) → List·Memᴰ q (ofAccepted eventProposals p)
     → (p .event ≡ ScriptEvent.Propose (q .unit) (q .mileage)) × (numberOf (p .answer .refusal) ≡ 0)
-of-proposal p q = go (isAccepted (p .answer)) refl (p .event)
+of-proposal p q = go (lineAccepted (p .answer)) refl (p .event)
   where
-    go : (t : Bool) → isAccepted (p .answer) ≡ t → (e : ScriptEvent) → List·Memᴰ q (cond t (proposalOf e) [])
+    go : (t : Bool) → lineAccepted (p .answer) ≡ t → (e : ScriptEvent) → List·Memᴰ q (cond t (eventProposals e) [])
         → (e ≡ ScriptEvent.Propose (q .unit) (q .mileage)) × (numberOf (p .answer .refusal) ≡ 0)
     go true ok (ScriptEvent.Propose u v) h =
         let same = List·Memᴰ·eq-of-singleton h in
@@ -61,13 +61,13 @@ of-proposal p q = go (isAccepted (p .answer)) refl (p .event)
 given-line : (n : ℕ) (b : Bench) (lines : List Played) (w : C.ContentsWorld) → Shows n b lines w → (v : ℕ) → Given v w → ProposedIn v lines
 unfolding proposals
 given-line n b lines w shows v g =
-    let r = flat-from (ofAccepted proposalOf) lines (rw (shows .proposed) at (g .there)) in
+    let r = flat-from (ofAccepted eventProposals) lines (rw (shows .proposed) at (g .there)) in
     let q = of-proposal (r .0) _ (r .1 .1) in
     record { line = r .0; there = r .1 .0; by = g .by; event = q .0; accepted = q .1 }
 
 -- a line is at most one event
 one-event : (P : List C.ContentsEvent → Type 0) → P [] → ((x : C.ContentsEvent) → P (x ∷ [])) → (p : Played) → P (ofAccepted contentsEvent p)
-one-event P none one p = go (isAccepted (p .answer)) (p .event)
+one-event P none one p = go (lineAccepted (p .answer)) (p .event)
   where
     go : (t : Bool) (e : ScriptEvent) → P (cond t (contentsEvent e) [])
     go true ScriptEvent.Malformed = none

@@ -38,7 +38,7 @@ use Rattle.bench_play.specs.declared.Bench.{Bench}
 use Rattle.bench_play.proofs.Accepting.{cut-number, own-number, accepts}
 use Rattle.bench_play.proofs.PlayedLines.{reached-sized}
 use Rattle.bench_history.specs.Calls.{proposeWith, deliverWith, keyOnWith, callOf, AsUnit, IsUp, IsDown, NoCall, OwnCall}
-use Rattle.bench_history.specs.Covered.{after, playedLines, EachLine}
+use Rattle.bench_history.specs.Covered.{reached, playedLines, EachLine}
 use Rattle.bench_history.specs.History.{setupOf, zeros, Below, Shows, contentsAfter, bytesAfter}
 use Rattle.bench_history.proofs.Accepted.{sent-at as bench-sent}
 use Rattle.bench_history.proofs.ByteHistory.{out-size, up-image, no-image, kept-bytes, called, bytes-simulated}
@@ -47,9 +47,9 @@ use Rattle.bench_history.proofs.Lists.{past-taken}
 use Rattle.bench_history.proofs.Simulation.{simulated, after-inv}
 
 -- what is claimed of a line by whether it is a call
-abbrev Of : Limits → B.ByteWorld → Bench → ScriptEvent → Option CallAnswer → Type 0
-Of l c b e none = NoCall c e (answer l b e .refusal)
-Of l c b e (some x) = AsUnit l b e x
+abbrev LineClaim : Limits → B.ByteWorld → Bench → ScriptEvent → Option CallAnswer → Type 0
+LineClaim l c b e none = NoCall c e (answer l b e .refusal)
+LineClaim l c b e (some x) = AsUnit l b e x
 
 -- the call's number, of the unit's own answer
 unit-number : (l : Limits) (b : Bench) (e : ScriptEvent) (x : CallAnswer) → AsUnit l b e x → x .number ≡ numberOf (unitAnswer l b e .refusal)
@@ -124,20 +124,20 @@ module _ (l : Limits) (sane : Sane l) (n : ℕ) (b : Bench) (sized : Sized b) (l
             )
             (subst (λ a. P (some (answered l a))) is-delivered sent)
 
-  own : (e : ScriptEvent) → eventUnit e < n → Of l c b e (callOf l c e)
+  own : (e : ScriptEvent) → eventUnit e < n → LineClaim l c b e (callOf l c e)
   unfolding callOf answer unitAnswer settle cutShort propose proposeConditions keyOff keyOn unless firstOf recovered downUnit atLog
   own ScriptEvent.Malformed below = refl
   own (ScriptEvent.Propose u v) below =
-      by-power u below (λ (x : B.UnitBytes). Of l c b (ScriptEvent.Propose u v) (proposeWith l (x .log) (x .image) v))
+      by-power u below (λ (x : B.UnitBytes). LineClaim l c b (ScriptEvent.Propose u v) (proposeWith l (x .log) (x .image) v))
       (λ on. propose-encoded l sane (unitAt b u) (well u below) on v (emptyBytes l) (out-size l)) (λ off. (rw off, is-down u below off))
   own (ScriptEvent.Deliver u k) below =
-      by-delivery u below (Of l c b (ScriptEvent.Deliver u k)) k (λ q down. inl (rw q, down)) (λ q up missing. inr (rw q, up, missing)) refl
+      by-delivery u below (LineClaim l c b (ScriptEvent.Deliver u k)) k (λ q down. inl (rw q, down)) (λ q up missing. inr (rw q, up, missing)) refl
   own (ScriptEvent.Cut u k) below =
-      by-delivery u below (Of l c b (ScriptEvent.Cut u k)) k (λ q down. inl (rw q, down)) (λ q up missing. inr (rw q, up, missing)) refl
+      by-delivery u below (LineClaim l c b (ScriptEvent.Cut u k)) k (λ q down. inl (rw q, down)) (λ q up missing. inr (rw q, up, missing)) refl
   own (ScriptEvent.KeyOff u) below =
-      by-power u below (λ x. Of l c b (ScriptEvent.KeyOff u) none) (λ on. inl (rw on, is-up u below on)) (λ off. inr (rw off, is-down u below off))
+      by-power u below (λ x. LineClaim l c b (ScriptEvent.KeyOff u) none) (λ on. inl (rw on, is-up u below on)) (λ off. inr (rw off, is-down u below off))
   own (ScriptEvent.KeyOn u) below =
-      by-power u below (λ (x : B.UnitBytes). Of l c b (ScriptEvent.KeyOn u) (keyOnWith l (x .log) (x .image))) (λ on. (rw on, is-up u below on))
+      by-power u below (λ (x : B.UnitBytes). LineClaim l c b (ScriptEvent.KeyOn u) (keyOnWith l (x .log) (x .image))) (λ on. (rw on, is-up u below on))
       (λ off. rw off (key-on-encoded l sane (unitLog (unitAt b u)) (zeros (imageSize l)) (well u below .log) (length-replicate (imageSize l) 0)))
 
   own-call : (e : ScriptEvent) → eventUnit e < n → OwnCall l c b e
@@ -146,24 +146,24 @@ module _ (l : Limits) (sane : Sane l) (n : ℕ) (b : Bench) (sized : Sized b) (l
         accepted = λ zero other. made zero other (callOf l c e) refl;
         answers = answers;
         number = number;
-        no-call = λ q. subst (Of l c b e) q (own e below);
+        no-call = λ q. subst (LineClaim l c b e) q (own e below);
       }
     where
       answers : (x : CallAnswer) → callOf l c e ≡ some x → AsUnit l b e x
-      answers x q = subst (Of l c b e) q (own e below)
+      answers x q = subst (LineClaim l c b e) q (own e below)
 
       number : (x : CallAnswer) → callOf l c e ≡ some x → (answer l b e .refusal ≡ Refusal.Full → ⊥) → x .number ≡ numberOf (answer l b e .refusal)
       number x q other = unit-number l b e x (answers x q) ∙ own-number l b e other
 
       made : numberOf (answer l b e .refusal) ≡ 0 → ((u : ℕ) → e ≡ ScriptEvent.KeyOff u → ⊥) → (o : Option CallAnswer) → callOf l c e ≡ o
           → (x : CallAnswer) × ((callOf l c e ≡ some x) × (x .number ≡ 0))
-      made zero other none q = absurd (no-call-refused c e _ other (subst (Of l c b e) q (own e below)) zero)
+      made zero other none q = absurd (no-call-refused c e _ other (subst (LineClaim l c b e) q (own e below)) zero)
       made zero other (some x) q = (x, (q, unit-number l b e x (answers x q) ∙ accepts l b e zero))
 
 pub calls : (l : Limits) → Sane l → (h : Header) → inRanges (h .n) (h .entry) ≡ true → (es : List ScriptEvent) → Below (h .n) es
-    → EachLine es (λ before e. OwnCall l (bytesAfter l h before) (after l h before) e)
+    → EachLine es (λ before e. OwnCall l (bytesAfter l h before) (reached l h before) e)
 calls l sane h range es below before later e split =
     let parts = below-parts (h .n) before e later (subst (Below (h .n)) split below) in
-    own-call l sane (h .n) (after l h before) (reached-sized h l before) (playedLines l h before) (contentsAfter l h before)
+    own-call l sane (h .n) (reached l h before) (reached-sized h l before) (playedLines l h before) (contentsAfter l h before)
     (simulated h range l before (parts .0)) (bytesAfter l h before) (bytes-simulated l sane h range before (parts .0))
     (valid l sane (setupOf h) _ (after-inv h range l before (parts .0))) e (parts .1)

@@ -61,9 +61,9 @@ covered-script l sane s h es e =
     covered l sane h (i .0) es (i .1)
 
 -- a script that is not read, of any length
-unread : (l : Limits) (s : List ℕ) → parse s ≡ malformed → listing l s ≡ malformedText
+unread-text : (l : Limits) (s : List ℕ) → parse s ≡ malformed → listing l s ≡ malformedText
 unfolding listing
-unread l s e = go (leb (length s) scriptSize)
+unread-text l s e = go (leb (length s) scriptSize)
   where
     go : (t : Bool) → cond t (scriptText l (parse s)) malformedText ≡ malformedText
     go true = rw e
@@ -78,7 +78,7 @@ listed l sane s =
           let c = covered-script l sane s h es e in
           rw (le-leb (length s) scriptSize short, e, c .as-many, ← c .kept);
       too-long = listing-long l s;
-      unread = unread l s;
+      unread = unread-text l s;
     }
 
 -- of the listing that is printed

@@ -32,7 +32,7 @@ use Rattle.bench_play.specs.Play.{Played, answer, play, benchAfter, unitAnswer}
 use Rattle.bench_play.specs.declared.Bench.{Bench}
 use Rattle.bench_play.specs.declared.LineAnswer.{LineAnswer}
 use Rattle.bench_play.specs.declared.Sent.{Sent}
-use Rattle.bench_history.specs.History.{setupOf, Below, ofAccepted, contentsEvent, history, proposalOf, proposals, decidedOf, decisions, Shows}
+use Rattle.bench_history.specs.History.{setupOf, Below, ofAccepted, contentsEvent, history, eventProposals, proposals, decidedOf, decisions, Shows}
 use Rattle.bench_history.specs.History.{contentsAfter}
 use Rattle.bench_play.specs.Claims.{Sized}
 use Rattle.bench_history.proofs.Accepted.{Went, went}
@@ -69,7 +69,7 @@ module _ (l : Limits) (n : ℕ) (high : n ≤ senders) (b : Bench) (sized : Size
         decided = shows .decided ∙ sym (flat-snoc _ lines (played e (refused b k)) ∙ append-nil _);
       })
 
-  module _ (a : Answer) (gone : Went w (run (step l n) w (contentsEvent e)) (proposalOf e) (eventUnit e) a) where
+  module _ (a : Answer) (gone : Went w (run (step l n) w (contentsEvent e)) (eventProposals e) (eventUnit e) a) where
     -- an accepted line: the unit is its answer's, and the messages are those sent
     after-accepted : (b′ : Bench) (s : Sent) → b′ .units ≡ set (b .units) (eventUnit e) (a .unit)
         → added (w .sent) (unlessEmpty (a .message .kind) (a .message)) ≡ take (b′ .kept) (b′ .messages)
@@ -82,7 +82,7 @@ module _ (l : Limits) (n : ℕ) (high : n ≤ senders) (b : Bench) (sized : Size
               ∙ sym (unit-set b (eventUnit e) (a .unit) v (omega (arith, sized .units)))
               ∙ ap (λ us. getD us v noUnit) (sym units);
           sent = gone .sent ∙ sent;
-          proposed = gone .proposed ∙ ap (λ ps. ps ++ proposalOf e) (shows .proposed) ∙ sym (flat-snoc _ lines _);
+          proposed = gone .proposed ∙ ap (λ ps. ps ++ eventProposals e) (shows .proposed) ∙ sym (flat-snoc _ lines _);
           decided = gone .decided ∙ ap (λ ds. ds ++ decidedOf (eventUnit e) (a .decision)) (shows .decided) ∙ sym (flat-snoc _ lines _);
         }
 
@@ -103,7 +103,7 @@ module _ (l : Limits) (n : ℕ) (high : n ≤ senders) (b : Bench) (sized : Size
       u : ℕ
       u = eventUnit e
 
-      gone : numberOf (a .refusal) ≡ 0 → Went w (run (step l n) w (contentsEvent e)) (proposalOf e) u a
+      gone : numberOf (a .refusal) ≡ 0 → Went w (run (step l n) w (contentsEvent e)) (eventProposals e) u a
       gone ok = went l n b sized lines w shows e below ok
 
       quiet : numberOf (a .refusal) ≡ 0 → a .message .kind ≡ Empty → After l n lines w e (accepted (withUnit b u (a .unit)) Sent.Nothing (a .decision))
@@ -130,14 +130,14 @@ module _ (l : Limits) (n : ℕ) (high : n ≤ senders) where
 
 -- ---- at the start
 
-fresh-at : (h : Header) (k u : ℕ) → u < k → getD (freshUnits h k) u noUnit ≡ fresh (P.settingsOf h u)
+fresh-at : (h : Header) (k u : ℕ) → u < k → getD (freshUnits h k) u noUnit ≡ fresh (P.headerSettings h u)
 unfolding freshUnits
 fresh-at h zero u b = absurd (omega arith)
 fresh-at h (suc k) u b = go (eqb u k) refl (fresh-at h k u)
   where
-    go : (t : Bool) → eqb u k ≡ t → (u < k → getD (freshUnits h k) u noUnit ≡ fresh (P.settingsOf h u))
-        → getD (freshUnits h k ++ (fresh (P.settingsOf h k) ∷ [])) u noUnit ≡ fresh (P.settingsOf h u)
-    go true e before = rw (eqb-true u k e) (getD-at (freshUnits h k) (fresh (P.settingsOf h k)) [] noUnit k (fresh-length h k))
+    go : (t : Bool) → eqb u k ≡ t → (u < k → getD (freshUnits h k) u noUnit ≡ fresh (P.headerSettings h u))
+        → getD (freshUnits h k ++ (fresh (P.headerSettings h k) ∷ [])) u noUnit ≡ fresh (P.headerSettings h u)
+    go true e before = rw (eqb-true u k e) (getD-at (freshUnits h k) (fresh (P.headerSettings h k)) [] noUnit k (fresh-length h k))
     go false e before =
         let less : u < k = omega (arith, eqb-false u k e) in
         List·getD-append (freshUnits h k) _ noUnit u (omega (arith, fresh-length h k)) ∙ before less

@@ -20,8 +20,8 @@ use Rattle.bench_play.specs.declared.Bench.{Bench}
 use Rattle.bench_history.specs.Calls.{OwnCall}
 use Rattle.bench_history.specs.History.{setupOf, byteHistory, Shows, contentsAfter, startLog, startImage, startBytes, bytesAfter}
 
-abbrev pub after : Limits → Header → List ScriptEvent → Bench
-after l h es = benchAfter l (start h) es
+abbrev pub reached : Limits → Header → List ScriptEvent → Bench
+reached l h es = benchAfter l (start h) es
 
 abbrev pub playedLines : Limits → Header → List ScriptEvent → List Played
 playedLines l h es = play l (start h) es
@@ -46,14 +46,14 @@ met =
 
 -- of the header h and the events es
 pub record Covered (l : Limits) (h : Header) (es : List ScriptEvent) : Type 0 where
-  pub sized : Sized (after l h es)
+  pub sized : Sized (reached l h es)
   -- the accepted lines are a history over contents, whose units, messages, proposals and decisions are the bench's
-  pub contents : Shows (h .n) (after l h es) (playedLines l h es) (contentsAfter l h es)
+  pub contents : Shows (h .n) (reached l h es) (playedLines l h es) (contentsAfter l h es)
   -- and one over bytes, from units that are started, whose bytes are those of these contents
   pub started : (u : ℕ) → u < h .n → B.startOf l (setupOf h) (startLog l) (startImage l) u .number ≡ 0
   pub bytes : Encodes l (h .n) (bytesAfter l h es) (contentsAfter l h es)
   -- each line is the call on its unit's own log and image, of which the bench makes what `settle` says, and each message delivered was sent
-  pub calls : EachLine es (λ before e. OwnCall l (bytesAfter l h before) (after l h before) e)
+  pub calls : EachLine es (λ before e. OwnCall l (bytesAfter l h before) (reached l h before) e)
   -- demand 3 asks that each event `call`, of buffers of the host's choice, be refused; this history has none
   pub lawful : B.Lawful l (h .n) (startBytes l h) (byteHistory l (start h) es)
   -- so that demand 3 holds of it
@@ -65,17 +65,17 @@ pub record Covered (l : Limits) (h : Header) (es : List ScriptEvent) : Type 0 wh
       → v ≡ w
   -- each was proposed on an earlier line
   pub decision-proposed : EachLine es (λ before e.
-      (v : ℕ) → answer l (after l h before) e .decision ≡ Mileage v → ProposedIn v (playedLines l h before))
+      (v : ℕ) → answer l (reached l h before) e .decision ≡ Mileage v → ProposedIn v (playedLines l h before))
   -- 11 exactly where no place is left for a message
-  pub full-only : EachLine es (λ before e. answer l (after l h before) e .refusal ≡ Refusal.Full → NoPlace l (after l h before) e)
+  pub full-only : EachLine es (λ before e. answer l (reached l h before) e .refusal ≡ Refusal.Full → NoPlace l (reached l h before) e)
   pub full-met : EachLine es (λ before e.
-      WouldSend l (after l h before) e → after l h before .kept ≡ places → answer l (after l h before) e .refusal ≡ Refusal.Full)
+      WouldSend l (reached l h before) e → reached l h before .kept ≡ places → answer l (reached l h before) e .refusal ≡ Refusal.Full)
   -- a refused line changes nothing
   pub refused-stays : EachLine es (λ before e.
-      (numberOf (answer l (after l h before) e .refusal) ≡ 0 → ⊥) → Unchanged (after l h before) (answer l (after l h before) e))
+      (numberOf (answer l (reached l h before) e .refusal) ≡ 0 → ⊥) → Unchanged (reached l h before) (answer l (reached l h before) e))
   -- a line for each line; as many messages kept as lines that sent one, and their numbers are 0, 1, 2 and so on
   pub as-many : length (playedLines l h es) ≡ length es
-  pub kept : after l h es .kept ≡ length (sentNumbers (playedLines l h es))
-  pub numbers : sentNumbers (playedLines l h es) ≡ rising 0 (after l h es .kept)
+  pub kept : reached l h es .kept ≡ length (sentNumbers (playedLines l h es))
+  pub numbers : sentNumbers (playedLines l h es) ≡ rising 0 (reached l h es .kept)
   -- where rounds go up to 128 or above, 1 to 4 and 7 are never met
   pub numbers-met : places ≤ l .lastRound → (p : Played) → List·Memᴰ p (playedLines l h es) → List·Memᴰ (numberOf (p .answer .refusal)) met

@@ -31,12 +31,12 @@ Below n (e ∷ es) = (eventUnit e < n) × Below n es
 
 -- ---- the events of agreement
 
-abbrev pub isAccepted : LineAnswer → Bool
-isAccepted r = eqb (numberOf (r .refusal)) 0
+abbrev pub lineAccepted : LineAnswer → Bool
+lineAccepted r = eqb (numberOf (r .refusal)) 0
 
 -- what f gives of an accepted line's event; of a refused line nothing
 abbrev pub ofAccepted : {A : Type 0} → (ScriptEvent → List A) → Played → List A
-ofAccepted f p = cond (isAccepted (p .answer)) (f (p .event)) []
+ofAccepted f p = cond (lineAccepted (p .answer)) (f (p .event)) []
 
 -- over contents; a malformed line is none
 abbrev pub contentsEvent : ScriptEvent → List C.ContentsEvent
@@ -69,16 +69,16 @@ byteHistory l b es = flatMap (ofAccepted (byteEvent l)) (play l b es)
 -- ---- what the lines show
 
 -- the accepted proposals, in order
-abbrev pub proposalOf : ScriptEvent → List Proposal
-proposalOf ScriptEvent.Malformed = []
-proposalOf (ScriptEvent.Propose u v) = record { unit = u; mileage = v } ∷ []
-proposalOf (ScriptEvent.Deliver u k) = []
-proposalOf (ScriptEvent.Cut u k) = []
-proposalOf (ScriptEvent.KeyOff u) = []
-proposalOf (ScriptEvent.KeyOn u) = []
+abbrev pub eventProposals : ScriptEvent → List Proposal
+eventProposals ScriptEvent.Malformed = []
+eventProposals (ScriptEvent.Propose u v) = record { unit = u; mileage = v } ∷ []
+eventProposals (ScriptEvent.Deliver u k) = []
+eventProposals (ScriptEvent.Cut u k) = []
+eventProposals (ScriptEvent.KeyOff u) = []
+eventProposals (ScriptEvent.KeyOn u) = []
 
 unfoldable pub proposals : List Played → List Proposal
-proposals lines = flatMap (ofAccepted proposalOf) lines
+proposals lines = flatMap (ofAccepted eventProposals) lines
 
 -- the decisions shown, in order: a mileage, and the unit of the line
 pub record Decided : Type 0 where

@@ -151,13 +151,13 @@ as-many l b [] = refl
 as-many l b (e ∷ es) = ap suc (as-many l (answer l b e .bench) es)
 
 -- of a line's answer: nothing is sent, or the message of the next number
-abbrev Next : Bench → LineAnswer → Type 0
-Next b r = ((r .sent ≡ Sent.Nothing) × (r .bench .kept ≡ b .kept)) ⊎ ((r .sent ≡ Sent.At (b .kept)) × (r .bench .kept ≡ b .kept + 1))
+abbrev TakesNext : Bench → LineAnswer → Type 0
+TakesNext b r = ((r .sent ≡ Sent.Nothing) × (r .bench .kept ≡ b .kept)) ⊎ ((r .sent ≡ Sent.At (b .kept)) × (r .bench .kept ≡ b .kept + 1))
 
-next : (l : Limits) (b : Bench) (e : ScriptEvent) → Next b (answer l b e)
+takes-next : (l : Limits) (b : Bench) (e : ScriptEvent) → TakesNext b (answer l b e)
 unfolding withUnit withMessage
-next l b e =
-    by-answer (Next b) l b e
+takes-next l b e =
+    by-answer (TakesNext b) l b e
     (record {
       refuses = λ some. inl (refl, refl);
       quiet = λ ok empty. inl (refl, refl);
@@ -173,9 +173,9 @@ pub record Numbered (k : ℕ) (b : Bench) (lines : List Played) : Type 0 where
 pub numbered : (l : Limits) (b : Bench) (es : List ScriptEvent) → Numbered (b .kept) (benchAfter l b es) (play l b es)
 unfolding play benchAfter sentNumbers flatMap
 numbered l b [] = record { kept = omega arith; numbers = refl }
-numbered l b (e ∷ es) = go (next l b e) (numbered l (answer l b e .bench) es)
+numbered l b (e ∷ es) = go (takes-next l b e) (numbered l (answer l b e .bench) es)
   where
-    go : Next b (answer l b e) → Numbered (answer l b e .bench .kept) (benchAfter l (answer l b e .bench) es) (play l (answer l b e .bench) es)
+    go : TakesNext b (answer l b e) → Numbered (answer l b e .bench .kept) (benchAfter l (answer l b e .bench) es) (play l (answer l b e .bench) es)
         → Numbered (b .kept) (benchAfter l (answer l b e .bench) es) (played e (answer l b e) ∷ play l (answer l b e .bench) es)
     go (inl q) r = record { kept = rw (q .0) (omega (arith, r .kept, q .1)); numbers = rw (q .0) (rw (q .1) at (r .numbers)) }
     go (inr q) r =

@@ -24,13 +24,13 @@ use Rattle.bench_play.specs.declared.Sent.{Sent}
 
 -- ---- at the start
 
-abbrev pub settingsOf : Header → ℕ → Settings
-settingsOf h u = record { engine = h .engine; n = h .n; unit = u; entry = h .entry }
+abbrev pub headerSettings : Header → ℕ → Settings
+headerSettings h u = record { engine = h .engine; n = h .n; unit = u; entry = h .entry }
 
 -- the first k units, all up and fresh
 unfoldable pub freshUnits : Header → ℕ → List U.Unit
 freshUnits h zero = []
-freshUnits h (suc k) = freshUnits h k ++ (fresh (settingsOf h k) ∷ [])
+freshUnits h (suc k) = freshUnits h k ++ (fresh (headerSettings h k) ∷ [])
 
 -- 128 message places, all empty; the units from n on are no event's
 unfoldable pub start : Header → Bench

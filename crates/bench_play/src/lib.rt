@@ -14,8 +14,8 @@ ghost use mathlib.Core.Path.{_≡_};
 ghost use Prim.Native.Nat.{_<_, _≤_};
 ghost use Rattle.tally.specs.Limits.{today, senders, places};
 ghost use Rattle.script.specs.Script.{eventUnit};
-ghost use Rattle.bench_play.specs.Bench.{settingsOf, freshUnits, start, unitAt, messageAt, refused, accepted, noPlaceLeft, withUnit, withMessage, send};
-ghost use Rattle.bench_play.specs.Bench.{settle};
+ghost use Rattle.bench_play.specs.Bench.{headerSettings, freshUnits, start, unitAt, messageAt, refused, accepted, noPlaceLeft, withUnit};
+ghost use Rattle.bench_play.specs.Bench.{withMessage, send, settle};
 ghost use Rattle.consensus.specs.Step.{fresh};
 ghost use Rattle.bench_play.specs.Play.{delivery, cutShort, answer};
 
@@ -41,7 +41,7 @@ pub struct LineAnswer {
 }
 
 fn fresh_unit(h: Header, unit: u8) -> Unit
-    ensures { λ r. ⌜ r ≡ fresh (settingsOf h unit) ⌝ }
+    ensures { λ r. ⌜ r ≡ fresh (headerSettings h unit) ⌝ }
 {
     let engine = h.engine;
     Unit::fresh(Settings {

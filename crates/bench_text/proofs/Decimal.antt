@@ -46,9 +46,9 @@ says-more n s h r =
       value = value-snoc 0 s (digitZero + n % 10) ∙ rw (r .value) (omega arith);
     }
 
-says : (k n : ℕ) → 0 < k → n < 10 ^ k → Says n (digits k n)
-says zero n p h = absurd (omega arith)
-says (suc k) n p h = go (decLt n 10) (says k (n / 10))
+digits-say : (k n : ℕ) → 0 < k → n < 10 ^ k → Says n (digits k n)
+digits-say zero n p h = absurd (omega arith)
+digits-say (suc k) n p h = go (decLt n 10) (digits-say k (n / 10))
   where
     go : Dec (n < 10) → (0 < k → n / 10 < 10 ^ k → Says (n / 10) (digits k (n / 10))) → Says n (digits (suc k) n)
     go (yes l) others = rw (few (suc k) n p l) (says-one n l)
@@ -72,4 +72,4 @@ says-read n s r short most =
 
 pub decimal-read : (n : ℕ) → n ≤ maxNumber → readNumber (decimal n) ≡ Number.Is n
 unfolding decimal
-decimal-read n most = says-read n (digits maxDigits n) (says maxDigits n (omega arith) (omega arith)) (digits-short maxDigits n) most
+decimal-read n most = says-read n (digits maxDigits n) (digits-say maxDigits n (omega arith) (omega arith)) (digits-short maxDigits n) most

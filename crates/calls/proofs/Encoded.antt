@@ -25,7 +25,7 @@ use Rattle.formats.specs.declared.EngineRead.the-variants.{Is, Unknown}
 use Rattle.formats.proofs.ImageFormat as image
 use Rattle.formats.proofs.LogFormat as log
 use Rattle.formats.proofs.MessageFormat as message
-use Rattle.formats.proofs.RoundTrips.{Lawful, read-written}
+use Rattle.formats.proofs.RoundTrips.{LawfulFormat, read-written}
 use Rattle.formats.proofs.Packed.{length-pack}
 use Rattle.consensus.specs.Methods.{propose, deliver, proposeConditions, deliverConditions, unless, refuses}
 use Rattle.consensus.specs.Conditions.{Condition, firstOf, NoneHolds}
@@ -53,7 +53,7 @@ pub record Started (l : Limits) (engine n unit entry : ℕ) (c : CallAnswer) : T
       ≡ called 0 (logBytes l (unitLog (fresh (settingsFor (Is known) n unit entry))))
       (imageBytes l (unitImage (fresh (settingsFor (Is known) n unit entry)))) [] blankCode
 
-length-bytes : {A : Type 0} (f : Format A) (Typed : A → Type 0) (law : Lawful f Typed) (a : A) → Typed a → f .ok a ≡ true
+length-bytes : {A : Type 0} (f : Format A) (Typed : A → Type 0) (law : LawfulFormat f Typed) (a : A) → Typed a → f .ok a ≡ true
     → length (toBytes f a) ≡ f .size
 length-bytes f Typed law a t ok = length-pack (f .widths) _ (law .fit a t ok) ∙ sym (law .sized)
 

@@ -27,13 +27,13 @@ use Rattle.consensus.specs.Methods.{forOther, outOfRange, closesLast}
 use Rattle.calls.specs.Calls.{CallAnswer, unitLengths, badLog, badSettings, badImage, badMessage, logBytes, messageBytes, startCallConditions, startCall}
 use Rattle.calls.specs.Calls.{keyOnCallConditions, keyOnCall, proposeCallConditions, proposeCall, deliverCallConditions, deliverCall}
 
-pub data Call : Type 0 where
-  start : (engine n unit entry : ℕ) (log image : List ℕ) → Call
-  keyOn : (log image : List ℕ) → Call
-  propose : (log image : List ℕ) (mileage : ℕ) (out : List ℕ) → Call
-  deliver : (log image message out : List ℕ) → Call
+pub data UnitCall : Type 0 where
+  start : (engine n unit entry : ℕ) (log image : List ℕ) → UnitCall
+  keyOn : (log image : List ℕ) → UnitCall
+  propose : (log image : List ℕ) (mileage : ℕ) (out : List ℕ) → UnitCall
+  deliver : (log image message out : List ℕ) → UnitCall
 
-abbrev answer : Call → CallAnswer
+abbrev answer : UnitCall → CallAnswer
 answer (start engine n unit entry log image) = startCall today engine n unit entry log image
 answer (keyOn log image) = keyOnCall today log image
 answer (propose log image mileage out) = proposeCall today log image mileage out
@@ -42,7 +42,7 @@ answer (deliver log image message out) = deliverCall today log image message out
 -- a case asks for the sizes at n, or makes a call
 pub data Question : Type 0 where
   sizesAt : ℕ → Question
-  calling : Call → Question
+  calling : UnitCall → Question
 
 -- B's quorum, R's quorum and R's majority, or what the call answers
 pub data Outcome : Type 0 where
@@ -124,7 +124,7 @@ junk k = replicate k 170
 -- ---- cases
 
 -- number, log, image, output buffer, decision
-abbrev case : Call → ℕ → List ℕ → List ℕ → List ℕ → ℕ → Case
+abbrev case : UnitCall → ℕ → List ℕ → List ℕ → List ℕ → ℕ → Case
 case c k log image out d =
     record { question = calling c; expected = called (record { number = k; log = log; image = image; out = out; decision = d }) }
 
@@ -133,21 +133,21 @@ abbrev quorums : ℕ → ℕ → ℕ → ℕ → Case
 quorums n b r most = record { question = sizesAt n; expected = sizes b r most }
 
 -- turned down with the number k: log and image keep their bytes, no decision; the output buffer is as given
-abbrev refused : ℕ → List ℕ → Call → Case
+abbrev refused : ℕ → List ℕ → UnitCall → Case
 refused k left (start engine n unit entry log image) = case (start engine n unit entry log image) k log image left none
 refused k left (keyOn log image) = case (keyOn log image) k log image left none
 refused k left (propose log image mileage out) = case (propose log image mileage out) k log image left none
 refused k left (deliver log image message out) = case (deliver log image message out) k log image left none
 
 -- accepted, with an image that has no marks
-abbrev gives : Call → List ℕ → List ℕ → List ℕ → ℕ → Case
+abbrev gives : UnitCall → List ℕ → List ℕ → List ℕ → ℕ → Case
 gives c log current out d = case c 0 log (unmarked current) out d
 
 -- calls of a unit at its log, without marks
-abbrev proposeTo : List ℕ → ℕ → Call
+abbrev proposeTo : List ℕ → ℕ → UnitCall
 proposeTo log mileage = propose log (unmarked log) mileage (junk 18)
 
-abbrev deliverTo : List ℕ → List ℕ → Call
+abbrev deliverTo : List ℕ → List ℕ → UnitCall
 deliverTo log message = deliver log (unmarked log) message (junk 18)
 
 -- unit 0 of 3 in B, and of 4 in R: round, proposal, estimates
@@ -182,7 +182,7 @@ abbrev bad : List ℕ
 bad = log B 2 0 0 blank blank blank
 
 -- the SECOND x of unit 2 after v and w of units 0 and 1, in R
-abbrev third : ℕ → ℕ → ℕ → Call
+abbrev third : ℕ → ℕ → ℕ → UnitCall
 third v w x = deliver sixR (image sixR (tally 0 []) (tally 3 (mileage v ++ mileage w))) (inR S 2 (mileage x) blank) (junk 18)
 
 -- round 9,999 in B, with a SECOND of unit 1

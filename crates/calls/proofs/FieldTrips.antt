@@ -15,7 +15,7 @@ use Rattle.formats.specs.Numbers.{Bytes, pack}
 use Rattle.formats.proofs.Packed.{Fit}
 use Rattle.tally.specs.Refusal.{numberOf}
 use Rattle.tally.specs.declared.Refusal.the-variants.{Length}
-use Rattle.formats.proofs.RoundTrips.{Lawful, from-numbers, numbers-back, read-numbers, read-written, written-read, refused-number}
+use Rattle.formats.proofs.RoundTrips.{LawfulFormat, from-numbers, numbers-back, read-numbers, read-written, written-read, refused-number}
 use Rattle.formats.specs.Logs.{logFormat}
 use Rattle.formats.specs.Messages.{messageFormat, cleared}
 use Rattle.formats.proofs.LogFormat as log
@@ -24,12 +24,12 @@ use Rattle.tally.specs.Limits.{Limits, logFields, logSize, messageFields, messa
 use Rattle.calls.specs.Fields.{putNumbers, putChecked, readCall, writeCall, FieldTrip, readLogCall, writeLogCall, readMessageCall, writeMessageCall}
 
 -- storing as many numbers as there are leaves these numbers
-pub stored : (fs vs : List ℕ) → length fs ≡ length vs → sets fs 0 vs ≡ vs
-stored fs vs e =
+pub sets-whole : (fs vs : List ℕ) → length fs ≡ length vs → sets fs 0 vs ≡ vs
+sets-whole fs vs e =
     let short : length fs ≤ 0 + length vs = omega arith in
     rw (sets-eq vs fs 0 (omega arith), drop-of-length-le fs short) (append-nil vs)
 
-module _ {A : Type 0} (f : Format A) (law : Lawful f (λ a. Unit)) where
+module _ {A : Type 0} (f : Format A) (law : LawfulFormat f (λ a. Unit)) where
   -- contents that were parsed are written as contents are
   pub put-checked : (a : A) (kept bs : List ℕ) → length bs ≡ f .size → putChecked f (checked f (some a)) kept ≡ writeBytes f a kept bs
   put-checked a kept bs len = rw (eq-eqb (length bs) (f .size) len) (go (f .ok a))

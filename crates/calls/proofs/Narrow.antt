@@ -14,7 +14,7 @@ use Rattle.formats.specs.Formats.{reading, Format, withZero, without, checked, 
 use Rattle.tally.specs.Limits.{Limits}
 use Rattle.formats.specs.Logs.{logFormat}
 use Rattle.formats.specs.Messages.{messageFormat}
-use Rattle.formats.proofs.RoundTrips.{Lawful, without-zero}
+use Rattle.formats.proofs.RoundTrips.{LawfulFormat, without-zero}
 use Rattle.formats.proofs.Packed.{Fit, fit-append}
 use Rattle.calls.specs.InnerFields.{narrow, headWidths, logHead, logNarrow, messageHead, messageNarrow}
 
@@ -64,7 +64,7 @@ fit-drop (suc k) (w ∷ ws) [] h = absurd h
 fit-drop (suc k) (w ∷ ws) (v ∷ vs) h = fit-drop k ws vs (h .1)
 
 -- numbers of which one is too large for its bytes are refused
-pub too-large : {A : Type 0} (f : Format A) (law : Lawful f (λ a. Unit)) (vs : List ℕ) (k : ℕ) → length vs ≡ f .fields
+pub too-large : {A : Type 0} (f : Format A) (law : LawfulFormat f (λ a. Unit)) (vs : List ℕ) (k : ℕ) → length vs ≡ f .fields
     → narrow true 0 (headWidths f k) vs ≡ false → fromNumbers f vs ≡ reading (f .malformed) (f .nothing)
 too-large f law vs k len wide = go (f .parse vs) refl
   where

@@ -1,5 +1,3 @@
-// Logs, images and messages as bytes. A wrong length is refused first, then malformed contents.
-pub mod images;
+// Logs and messages as bytes. A wrong length is refused first, then malformed contents.
 pub mod logs;
 pub mod messages;
-mod numbers;

@@ -1,5 +1,4 @@
 // The 20 bytes of a log.
-use super::numbers;
 use contents::Log;
 use contents::Settings;
 use contents::State;
@@ -42,33 +41,33 @@ const AT_FIRST: usize = AT_PROPOSAL + 4;
 const AT_SECOND: usize = AT_FIRST + 4;
 
 // The engine of a log or an image; unknown also where the zero byte is not 0.
-pub(crate) fn engine_at(s: &[u8]) -> EngineRead
+pub fn engine_at(s: &[u8]) -> EngineRead
     requires { ⌜ logSize today ≤ length (now s) ⌝ }
     ensures { λ r. ⌜ r ≡ engineAt (now (s .entry)) ⌝ }
 {
-    if numbers::be8(s, AT_ZERO) != 0 {
+    if big_endian::be8(s, AT_ZERO) != 0 {
         return EngineRead::Unknown;
     }
-    codes::engine_of(numbers::be8(s, 0))
+    codes::engine_of(big_endian::be8(s, 0))
 }
 
 // The contents that the bytes hold, at an engine.
-pub(crate) fn log_at(engine: Engine, s: &[u8]) -> Log
+pub fn log_at(engine: Engine, s: &[u8]) -> Log
     requires { ⌜ logSize today ≤ length (now s) ⌝ }
     ensures { λ r. ⌜ r ≡ logOf engine (logNumbersIn today (now (s .entry))) ⌝ }
 {
     Log {
         settings: Settings {
             engine,
-            n: numbers::be8(s, AT_N),
-            unit: numbers::be8(s, AT_UNIT),
-            entry: numbers::be16(s, AT_ENTRY),
+            n: big_endian::be8(s, AT_N),
+            unit: big_endian::be8(s, AT_UNIT),
+            entry: big_endian::be16(s, AT_ENTRY),
         },
         state: State {
-            round: numbers::round_at(s, AT_ROUND),
-            proposal: codes::estimate_of(numbers::be32(s, AT_PROPOSAL)),
-            first: codes::estimate_of(numbers::be32(s, AT_FIRST)),
-            second: codes::estimate_of(numbers::be32(s, AT_SECOND)),
+            round: big_endian::round_at(s, AT_ROUND),
+            proposal: codes::estimate_of(big_endian::be32(s, AT_PROPOSAL)),
+            first: codes::estimate_of(big_endian::be32(s, AT_FIRST)),
+            second: codes::estimate_of(big_endian::be32(s, AT_SECOND)),
         },
     }
 }
@@ -101,32 +100,32 @@ fn put_three(out: &mut [u8], at: usize, a: Estimate, b: Estimate, c: Estimate)
     requires { ⌜ at + 12 ≤ length (now out) ⌝ }
     ensures { λ _. ⌜ now (out .exit) ≡ packInto (now (out .entry)) at (4 ∷ 4 ∷ 4 ∷ []) (codeOf a ∷ codeOf b ∷ codeOf c ∷ []) ⌝ }
 {
-    numbers::put32(out, at, codes::code_of(a));
-    numbers::put32(out, at + 4, codes::code_of(b));
-    numbers::put32(out, at + 4 + 4, codes::code_of(c));
+    big_endian::put32(out, at, codes::code_of(a));
+    big_endian::put32(out, at + 4, codes::code_of(b));
+    big_endian::put32(out, at + 4 + 4, codes::code_of(c));
 }
 
 // The round of a log or an image.
-pub(crate) fn round_at(s: &[u8]) -> Round
+pub fn round_at(s: &[u8]) -> Round
     requires { ⌜ logSize today ≤ length (now s) ⌝ }
     ensures { λ r. ⌜ r ≡ roundAt (now (s .entry)) ⌝ }
 {
-    numbers::round_at(s, AT_ROUND)
+    big_endian::round_at(s, AT_ROUND)
 }
 
 // The state of a log or an image.
-pub(crate) fn put_state_at(s: State, out: &mut [u8])
+pub fn put_state_at(s: State, out: &mut [u8])
     requires { ⌜ logSize today ≤ length (now out) ⌝ }
     ensures { λ _. ⌜ now (out .exit) ≡ packInto (now (out .entry)) (total settingsWidths) (stateWidths today) (stateNumbers s) ⌝ }
 {
     let proposal = s.proposal;
     let first = s.first;
     let second = s.second;
-    numbers::put_round(out, AT_ROUND, s.round);
+    big_endian::put_round(out, AT_ROUND, s.round);
     put_three(out, AT_PROPOSAL, proposal, first, second);
 }
 
-pub(crate) fn put_log(log: Log, out: &mut [u8])
+pub fn put_log(log: Log, out: &mut [u8])
     requires { ⌜ logSize today ≤ length (now out) ⌝ }
     ensures { λ _. ⌜ now (out .exit) ≡ packInto (now (out .entry)) 0 (logWidths today) (withZero logZero (logNumbers log)) ⌝ }
 {
@@ -136,7 +135,7 @@ pub(crate) fn put_log(log: Log, out: &mut [u8])
     let proposal = state.proposal;
     let first = state.first;
     let second = state.second;
-    numbers::put_four(
+    big_endian::put_four(
         out,
         0,
         codes::letter_of(engine),
@@ -144,7 +143,7 @@ pub(crate) fn put_log(log: Log, out: &mut [u8])
         settings.unit,
         0,
     );
-    numbers::put_entry_round(out, AT_ENTRY, settings.entry, state.round);
+    big_endian::put_entry_round(out, AT_ENTRY, settings.entry, state.round);
     put_three(out, AT_PROPOSAL, proposal, first, second);
 }
 

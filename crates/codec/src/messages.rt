@@ -1,5 +1,4 @@
 // The 18 bytes of a message.
-use super::numbers;
 use contents::Kind;
 use contents::Message;
 use formats::EngineRead;
@@ -44,13 +43,13 @@ fn message_at(kind: Kind, engine: Engine, s: &[u8]) -> Message
     Message {
         kind,
         engine,
-        n: numbers::be8(s, AT_N),
-        sender: numbers::be8(s, AT_SENDER),
-        receiver: numbers::be8(s, AT_RECEIVER),
-        entry: numbers::be16(s, AT_ENTRY),
-        round: numbers::round_at(s, AT_ROUND),
-        estimate: codes::estimate_of(numbers::be32(s, AT_ESTIMATE)),
-        proposal: codes::estimate_of(numbers::be32(s, AT_PROPOSAL)),
+        n: big_endian::be8(s, AT_N),
+        sender: big_endian::be8(s, AT_SENDER),
+        receiver: big_endian::be8(s, AT_RECEIVER),
+        entry: big_endian::be16(s, AT_ENTRY),
+        round: big_endian::round_at(s, AT_ROUND),
+        estimate: codes::estimate_of(big_endian::be32(s, AT_ESTIMATE)),
+        proposal: codes::estimate_of(big_endian::be32(s, AT_PROPOSAL)),
     }
 }
 
@@ -84,12 +83,12 @@ pub fn read_message(s: &[u8]) -> MessageRead
     if s.len() != limits::MESSAGE_SIZE {
         return MessageRead::Refused(Refusal::Length);
     }
-    if numbers::be8(s, AT_ZERO) != 0 {
+    if big_endian::be8(s, AT_ZERO) != 0 {
         return MessageRead::Refused(Refusal::Message);
     }
     message_from(
-        codes::kind_of(numbers::be8(s, 0)),
-        codes::engine_of(numbers::be8(s, 1)),
+        codes::kind_of(big_endian::be8(s, 0)),
+        codes::engine_of(big_endian::be8(s, 1)),
         s,
     )
 }
@@ -102,7 +101,7 @@ fn put_message(m: Message, out: &mut [u8])
     let engine = m.engine;
     let estimate = m.estimate;
     let proposal = m.proposal;
-    numbers::put_four(
+    big_endian::put_four(
         out,
         0,
         codes::kind_letter(kind),
@@ -110,11 +109,11 @@ fn put_message(m: Message, out: &mut [u8])
         m.n,
         m.sender,
     );
-    numbers::put8(out, AT_RECEIVER, m.receiver);
-    numbers::put8(out, AT_ZERO, 0);
-    numbers::put_entry_round(out, AT_ENTRY, m.entry, m.round);
-    numbers::put32(out, AT_ESTIMATE, codes::code_of(estimate));
-    numbers::put32(out, AT_PROPOSAL, codes::code_of(proposal));
+    big_endian::put8(out, AT_RECEIVER, m.receiver);
+    big_endian::put8(out, AT_ZERO, 0);
+    big_endian::put_entry_round(out, AT_ENTRY, m.entry, m.round);
+    big_endian::put32(out, AT_ESTIMATE, codes::code_of(estimate));
+    big_endian::put32(out, AT_PROPOSAL, codes::code_of(proposal));
 }
 
 // Zeros an output buffer of the right length, and leaves another.

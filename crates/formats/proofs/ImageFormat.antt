@@ -31,7 +31,7 @@ use Rattle.formats.specs.RoundTrip.{RoundTrip}
 use Rattle.formats.specs.declared.EngineRead.the-variants.{Is}
 use Rattle.formats.proofs.Letters.{engine-letter, made, code-estimate, estimate-code, code-fits}
 use Rattle.formats.proofs.LogFormat as log
-use Rattle.formats.proofs.RoundTrips.{Lawful, round-trip, read-parsed}
+use Rattle.formats.proofs.RoundTrips.{LawfulFormat, round-trip, read-parsed}
 use Rattle.formats.proofs.Packed.{Fit, num-fits, fit-append, packInto-append, packInto-eq}
 
 pub length-tally : (t : Tally) → length (t .cells) ≡ senders → length (tallyNumbers t) ≡ length tallyWidths
@@ -129,7 +129,7 @@ module _ (l : Limits) (sane : Sane l) where
       (tally-fit (i .checks) (t .0) (known-cells false g (i .settings .n) (i .checks) (f .checks) (t .0)))
       (tally-fit (i .seconds) (t .1) (known-cells (isB g) g (i .settings .n) (i .seconds) (f .seconds) (t .1))))
 
-  pub lawful : Lawful (imageFormat l) TypedImage
+  pub lawful : LawfulFormat (imageFormat l) TypedImage
   unfolding imageOk logOk
   lawful =
       record {

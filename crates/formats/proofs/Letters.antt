@@ -105,11 +105,11 @@ spread o zero vs = []
 spread o (suc k) vs = getD vs o 0 ∷ spread (suc o) k vs
 
 -- a list of k elements is its elements
-pub listed : (k : ℕ) (vs : List ℕ) → length vs ≡ k → spread 0 k vs ≡ vs
-listed zero [] e = refl
-listed zero (v ∷ vs) e = absurd (omega arith)
-listed (suc k) [] e = absurd (omega arith)
-listed (suc k) (v ∷ vs) e = rw (shift 0 k, listed k vs (omega arith))
+pub spread-whole : (k : ℕ) (vs : List ℕ) → length vs ≡ k → spread 0 k vs ≡ vs
+spread-whole zero [] e = refl
+spread-whole zero (v ∷ vs) e = absurd (omega arith)
+spread-whole (suc k) [] e = absurd (omega arith)
+spread-whole (suc k) (v ∷ vs) e = rw (shift 0 k, spread-whole k vs (omega arith))
   where
     shift : (o k : ℕ) → spread (suc o) k (v ∷ vs) ≡ spread o k vs
     shift o zero = refl

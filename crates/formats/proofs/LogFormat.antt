@@ -18,15 +18,15 @@ use Rattle.formats.specs.Formats.{withZero}
 use Rattle.formats.specs.Logs.{logWidths, logZero, logNumbers, logOf, logFormat, readLog, writeLog}
 use Rattle.formats.specs.RoundTrip.{RoundTrip}
 use Rattle.formats.specs.declared.EngineRead.the-variants.{Is}
-use Rattle.formats.proofs.Letters.{engine-letter, letter-fits, letter-engine, made, code-estimate, estimate-code, code-fits, listed}
-use Rattle.formats.proofs.RoundTrips.{Lawful, round-trip}
+use Rattle.formats.proofs.Letters.{engine-letter, letter-fits, letter-engine, made, code-estimate, estimate-code, code-fits, spread-whole}
+use Rattle.formats.proofs.RoundTrips.{LawfulFormat, round-trip}
 use Rattle.formats.proofs.Packed.{Fit}
 use Rattle.formats.proofs.Steps.{write-kept}
 
 -- the numbers of a log that was made of eight numbers
 pub numbers-of : (e : Engine) (vs : List ℕ) → length vs ≡ logFields → engineOf (getD vs 0 0) ≡ Is e → logNumbers (logOf e vs) ≡ vs
 numbers-of e vs len p =
-    rw (letter-engine (getD vs 0 0) e p, code-estimate (getD vs 5 0), code-estimate (getD vs 6 0), code-estimate (getD vs 7 0)) (listed logFields vs len)
+    rw (letter-engine (getD vs 0 0) e p, code-estimate (getD vs 5 0), code-estimate (getD vs 6 0), code-estimate (getD vs 7 0)) (spread-whole logFields vs len)
 
 module _ (l : Limits) (sane : Sane l) where
   -- a well-formed log is made of its numbers
@@ -73,7 +73,7 @@ module _ (l : Limits) (sane : Sane l) where
         ),
       )
 
-  pub lawful : Lawful (logFormat l) (λ r. Unit)
+  pub lawful : LawfulFormat (logFormat l) (λ r. Unit)
   unfolding logOk
   lawful =
       record {

@@ -26,8 +26,8 @@ use Rattle.formats.specs.declared.EngineRead.the-variants.{Is, Unknown}
 use Rattle.formats.specs.declared.KindRead.{KindRead}
 use Rattle.formats.specs.declared.KindRead.the-variants.{Is as KindIs, Unknown as KindUnknown}
 use Rattle.formats.proofs.Letters.{engine-letter, letter-fits, letter-engine, kind-letter, kind-fits, letter-kind, code-estimate, estimate-code}
-use Rattle.formats.proofs.Letters.{code-fits, listed}
-use Rattle.formats.proofs.RoundTrips.{Lawful, round-trip}
+use Rattle.formats.proofs.Letters.{code-fits, spread-whole}
+use Rattle.formats.proofs.RoundTrips.{LawfulFormat, round-trip}
 use Rattle.formats.proofs.Packed.{Fit}
 use Rattle.formats.proofs.Steps.{write-kept}
 
@@ -72,7 +72,7 @@ module _ (l : Limits) (sane : Sane l) where
         ),
       )
 
-  pub lawful : Lawful (messageFormat l) (λ m. Unit)
+  pub lawful : LawfulFormat (messageFormat l) (λ m. Unit)
   unfolding messageOk
   lawful =
       record {
@@ -103,7 +103,7 @@ module _ (l : Limits) (sane : Sane l) where
           let same : messageOf k e vs ≡ m = cc in
           rw (← same)
           (rw (letter-kind (getD vs 0 0) k p, letter-engine (getD vs 1 0) e q, code-estimate (getD vs 7 0), code-estimate (getD vs 8 0))
-          (listed messageFields vs len))
+          (spread-whole messageFields vs len))
       back vs m len (KindIs k) Unknown p q h = never cc
       back vs m len KindUnknown o p q h = never cc
 

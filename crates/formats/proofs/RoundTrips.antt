@@ -1,4 +1,4 @@
--- Both round trips, of any format whose fields obey the laws of `Lawful`. Assumes nothing.
+-- Both round trips, of any format whose fields obey the laws of `LawfulFormat`. Assumes nothing.
 use Prim.Native.Nat.{ℕ, suc, _+_, _≤_, _<_}
 use mathlib.Core.Path.{_≡_, refl, sym, ap, _∙_}
 use mathlib.Core.Bool.{Bool, true, false, cond}
@@ -47,7 +47,7 @@ module _ (k : ℕ) (vs : List ℕ) where
 -- ---- formats
 
 -- what a format's fields have to do with each other; `Typed` is what the code's types say of contents
-pub record Lawful {A : Type 0} (f : Format A) (Typed : A → Type 0) : Type 0 where
+pub record LawfulFormat {A : Type 0} (f : Format A) (Typed : A → Type 0) : Type 0 where
   pub sized : f .size ≡ total (f .widths)
   pub counted : suc (f .fields) ≡ length (f .widths)
   pub placed : f .zeroAt < length (f .widths)
@@ -58,7 +58,7 @@ pub record Lawful {A : Type 0} (f : Format A) (Typed : A → Type 0) : Type 0 wh
   pub parsed : (a : A) → Typed a → f .ok a ≡ true → f .parse (f .numbers a) ≡ some a
   pub back : (vs : List ℕ) (a : A) → length vs ≡ f .fields → f .parse vs ≡ some a → f .numbers a ≡ vs
 
-module _ {A : Type 0} (f : Format A) (Typed : A → Type 0) (law : Lawful f Typed) where
+module _ {A : Type 0} (f : Format A) (Typed : A → Type 0) (law : LawfulFormat f Typed) where
   -- ---- numbers
 
   -- well-formed contents are read from their numbers

@@ -41,7 +41,7 @@ pub(crate) fn put_proposal(a: Answer, image: &mut [u8], out: &mut [u8]) -> u32
     let refusal = a.refusal;
     let number = tally::number(refusal);
     if number == 0 {
-        codec::images::put_state(a.unit.current, image);
+        image_codec::put_state(a.unit.current, image);
         put_message(a.message, out);
     }
     number
@@ -65,7 +65,7 @@ pub(crate) fn put_answer(
         *decision = codes::code_of(decided);
         put_message(a.message, out);
         codec::logs::store_log(a.unit.log(), log);
-        codec::images::put_image(a.unit.current, a.unit.checks, a.unit.seconds, image);
+        image_codec::put_image(a.unit.current, a.unit.checks, a.unit.seconds, image);
     }
     number
 }

@@ -39,7 +39,7 @@ pub fn start(engine: u32, n: u32, unit: u32, entry: u32, log: &mut [u8], image: 
     }
     let l = Unit::fresh(settings).log();
     codec::logs::store_log(l, log);
-    codec::images::store_unmarked(l, image);
+    image_codec::store_unmarked(l, image);
     tally::number(Refusal::None)
 }
 
@@ -53,7 +53,7 @@ pub fn key_on(log: &[u8], image: &mut [u8]) -> u32
     let LogRead::Read(l) = codec::logs::read_log(log) else {
         return tally::number(Refusal::Log);
     };
-    codec::images::store_unmarked(l, image);
+    image_codec::store_unmarked(l, image);
     tally::number(Refusal::None)
 }
 
@@ -70,14 +70,14 @@ pub fn propose(log: &[u8], image: &mut [u8], mileage: u32, out: &mut [u8]) -> u3
     let LogRead::Read(l) = codec::logs::read_log(log) else {
         return tally::number(Refusal::Log);
     };
-    let StateRead::Fits(state) = codec::images::state_for(image, l) else {
+    let StateRead::Fits(state) = image_codec::state_for(image, l) else {
         return tally::number(Refusal::Image);
     };
     let u = Unit::up(
         l,
         state,
-        codec::images::checks_of(image),
-        codec::images::seconds_of(image),
+        image_codec::checks_of(image),
+        image_codec::seconds_of(image),
     );
     buffers::put_proposal(u.propose(mileage), image, out)
 }
@@ -104,7 +104,7 @@ pub fn deliver(
     let LogRead::Read(l) = codec::logs::read_log(log) else {
         return tally::number(Refusal::Log);
     };
-    let StateRead::Fits(state) = codec::images::state_for(image, l) else {
+    let StateRead::Fits(state) = image_codec::state_for(image, l) else {
         return tally::number(Refusal::Image);
     };
     let MessageRead::Read(m) = codec::messages::read_message(message) else {
@@ -113,8 +113,8 @@ pub fn deliver(
     let u = Unit::up(
         l,
         state,
-        codec::images::checks_of(image),
-        codec::images::seconds_of(image),
+        image_codec::checks_of(image),
+        image_codec::seconds_of(image),
     );
     buffers::put_answer(u.deliver(m), log, image, out, decision)
 }

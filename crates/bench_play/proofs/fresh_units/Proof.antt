@@ -11,7 +11,7 @@ use Rattle.tally.specs.Limits.{senders}
 use Rattle.consensus.specs.Step.{fresh}
 use Rattle.consensus.specs.declared.Unit as U
 use Rattle.script.specs.declared.Header.{Header}
-use Rattle.bench_play.specs.Bench.{settingsOf, freshUnits}
+use Rattle.bench_play.specs.Bench.{headerSettings, freshUnits}
 use Rattle.bench_play.proofs.fresh_units.Statement.{statement}
 use Rattle.bench_play.proofs.fresh_units.Tie as tie
 
@@ -21,7 +21,7 @@ Inv-loop h units₀ i₀ units i = (i ≤ senders) × (length units ≡ senders)
 abbrev μ-loop : tie.MeasureT-loop
 μ-loop h units₀ i₀ units i = senders - i
 
-more : (h : Header) (i : ℕ) (us : List U.Unit) (x : U.Unit) → i < length us → x ≡ fresh (settingsOf h i) → take i us ≡ freshUnits h i
+more : (h : Header) (i : ℕ) (us : List U.Unit) (x : U.Unit) → i < length us → x ≡ fresh (headerSettings h i) → take i us ≡ freshUnits h i
     → take (i + 1) (set us i x) ≡ freshUnits h (i + 1)
 unfolding freshUnits
 more h i us x below e t = rw (add-one, take-suc-set us i x below, t, e)

@@ -1,6 +1,6 @@
 use native.Mathlib.Omega.{arith}
 use lib.ListN.{length-set}
-use Rattle.calls.proofs.FieldTrips.{stored}
+use Rattle.calls.proofs.FieldTrips.{sets-whole}
 use Rattle.formats.specs.Logs.{logNumbers}
 use borrow.Author.Needs.{needs}
 use Rattle.fields.proofs.numbers.put_log.Statement.{statement}
@@ -20,7 +20,7 @@ returns c =
       c .before .before .before .before .before .before .before .wide8 .ensures,
       c .before .before .before .before .before .before .before .before .letter-of .ensures,
     )
-    (stored (start .args .f .now) (logNumbers (start .args .log)) (start .pre))
+    (sets-whole (start .args .f .now) (logNumbers (start .args .log)) (start .pre))
 
 pub put-log-spec : {M : Type 1} → statement M
 put-log-spec =

@@ -1,6 +1,6 @@
 use native.Mathlib.Omega.{arith}
 use lib.ListN.{length-set}
-use Rattle.calls.proofs.FieldTrips.{stored}
+use Rattle.calls.proofs.FieldTrips.{sets-whole}
 use Rattle.formats.specs.Messages.{messageNumbers}
 use borrow.Author.Needs.{needs}
 use Rattle.fields.proofs.numbers.put_message.Statement.{statement}
@@ -22,7 +22,7 @@ returns c =
       c .before .before .before .before .before .before .before .before .before .wide8 .ensures,
       c .before .before .before .before .before .before .before .before .before .before .kind-letter .ensures,
     )
-    (stored (start .args .f .now) (messageNumbers (start .args .m)) (start .pre))
+    (sets-whole (start .args .f .now) (messageNumbers (start .args .m)) (start .pre))
 
 pub put-message-spec : {M : Type 1} → statement M
 put-message-spec =

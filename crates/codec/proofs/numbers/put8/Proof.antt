@@ -1,9 +1,0 @@
-use native.Mathlib.Nat.{mod-eq-of-lt}
-use Rattle.formats.specs.Numbers.{bytesOf}
-use borrow.Author.Needs.{needs}
-use Rattle.codec.proofs.numbers.put8.Statement.{statement}
-use Rattle.codec.proofs.numbers.put8.Tie as tie
-
-pub put8-spec : {M : Type 1} → statement M
-unfolding bytesOf
-put8-spec = tie.close (tie.spec (λ c. search needs) (λ c. search needs) (λ c. simp (mod-eq-of-lt (c .fits .x .fits))))
