@@ -9,7 +9,7 @@ use lib.Count.{ones}
 use lib.Dec.{eqb}
 use lib.ListN.{length}
 use Rattle.tally.specs.Count.{count}
-use Rattle.tally.specs.Gathered.{holds, common, lowest}
+use Rattle.tally.specs.Gathered.{hasValue, common, lowest}
 use Rattle.tally.specs.Limits.{Limits}
 use Rattle.tally.specs.Quorum.{quorumOf}
 use Rattle.tally.specs.Tally.{held, mark, noMarks, gathered}
@@ -89,7 +89,7 @@ module _ (X : Message → Type 0) (k : Kind) (r : ℕ) where
       → common (gathered t) ≡ Mileage v → Quorum c X k r (Mileage v)
   common-quorum c t proper tallied full v e =
       record {
-        who = λ s. holds v (held t s);
+        who = λ s. hasValue v (held t s);
         many = common-voted (c .n) t proper (quorum c) v e full;
         each = λ s h. tallied-mileage t tallied s v (holds-mileage v (held t s) h);
       }
@@ -132,10 +132,10 @@ module _ (l : Limits) (c : Setup) (X : Message → Type 0) (A : ℕ → Type 0) 
     sure s v e = vote-sure l c X A sent (seconds-of s v e)
 
     -- a proposal that is sure at r and, but for its own mileage, blocked at r is sure above
-    above : (p : Estimate) → ((v : ℕ) → holds v p ≡ false → c .n < count (c .n) (others t v) + quorum c) → Sure c X A r p → Sure c X A (r + 1) p
+    above : (p : Estimate) → ((v : ℕ) → hasValue v p ≡ false → c .n < count (c .n) (others t v) + quorum c) → Sure c X A r p → Sure c X A (r + 1) p
     above p many old = (λ r₀ v b n. go r₀ v b n (decLt r₀ r), old .1)
       where
-        go : (r₀ v : ℕ) → r₀ < r + 1 → holds v p ≡ false → Dec (r₀ < r) → Blocked c X r₀ v
+        go : (r₀ v : ℕ) → r₀ < r + 1 → hasValue v p ≡ false → Dec (r₀ < r) → Blocked c X r₀ v
         go r₀ v b n (yes h) = old .0 r₀ v h n
         go r₀ v b n (no h) = let e : r ≡ r₀ = omega arith in subst (λ s. Blocked c X s v) e (block v (many v n))
 
@@ -146,7 +146,7 @@ module _ (l : Limits) (c : Setup) (X : Message → Type 0) (A : ℕ → Type 0) 
         p : Estimate
         p = nextProposal R (c .n) t own
 
-        many : (v : ℕ) → holds v p ≡ false → c .n < count (c .n) (others t v) + quorum c
+        many : (v : ℕ) → hasValue v p ≡ false → c .n < count (c .n) (others t v) + quorum c
         many v n =
             let q : quorum c ≡ quorumOf R (c .n) = rw isR in
             omega (arith, next-r-blocks (c .n) t proper own v (exact ∙ q) (holds-not v p n))
@@ -155,7 +155,7 @@ module _ (l : Limits) (c : Setup) (X : Message → Type 0) (A : ℕ → Type 0) 
         all = record { who = voted t; many = full-voted (c .n) t proper (quorum c) full; each = λ s h. tt }
 
         -- some SECOND is not v
-        old : (r₀ v : ℕ) → r₀ < r → holds v p ≡ false → Blocked c X r₀ v
+        old : (r₀ v : ℕ) → r₀ < r → hasValue v p ≡ false → Blocked c X r₀ v
         old r₀ v b n =
             let o = meet (omega arith) (block v (many v n)) all .1 .0 in
             let w = second-mileage isR (o .vote) in
@@ -168,10 +168,10 @@ module _ (l : Limits) (c : Setup) (X : Message → Type 0) (A : ℕ → Type 0) 
       where
         many : (v : ℕ) → ((s : ℕ) → s < c .n → held t s ≡ Mileage v → ⊥) → c .n < count (c .n) (others t v) + quorum c
         many v f =
-            let m = count-mono (c .n) (voted t) (others t v) (λ s b h. rw (h, no s b (holds v (held t s)) refl)) in
+            let m = count-mono (c .n) (voted t) (others t v) (λ s b h. rw (h, no s b (hasValue v (held t s)) refl)) in
             omega (arith, full-voted (c .n) t proper (quorum c) full, quorum-half (c .engine) (c .n))
           where
-            no : (s : ℕ) → s < c .n → (b : Bool) → holds v (held t s) ≡ b → holds v (held t s) ≡ false
+            no : (s : ℕ) → s < c .n → (b : Bool) → hasValue v (held t s) ≡ b → hasValue v (held t s) ≡ false
             no s b true h = absurd (f s b (holds-mileage v (held t s) h))
             no s b false h = h
 

@@ -22,6 +22,7 @@ use Rattle.tally.proofs.Never.{never}
 use Rattle.tally.proofs.Quorums.{quorum-half}
 use Rattle.contents.specs.Estimates.{isBlank}
 use Rattle.contents.specs.Images.{sameSettings, fits}
+use Rattle.contents.specs.Messages.{emptyMessage}
 use Rattle.contents.specs.declared.Kind.{Kind}
 use Rattle.contents.specs.declared.Kind.the-variants.{Empty, Check, Second}
 use Rattle.contents.specs.declared.Message.{Message}
@@ -32,7 +33,7 @@ use Rattle.contents.proofs.Same.{Fits, state-fits}
 use Rattle.contents.proofs.Tests.{both-true}
 use Rattle.consensus.specs.Methods.{unless, proposeConditions, propose, deliverConditions, deliver, keyOff, keyOn}
 use Rattle.consensus.specs.Conditions.{Condition}
-use Rattle.consensus.specs.Step.{emptyMessage, quiet, says, withFirst, withSecond, logWrite, atRound, orIfBlank, sendFirst, proposed, voteKind, voteProposal}
+use Rattle.consensus.specs.Step.{quiet, says, withFirst, withSecond, logWrite, atRound, orIfBlank, sendFirst, proposed, voteKind, voteProposal}
 use Rattle.consensus.specs.Step.{takeFirst, isFull, takeSecond, checksWith, close, secondsWith, onKind, skip, received, recovered}
 use Rattle.consensus.specs.Units.{WellFormed, unitImage, atLog, downUnit}
 use Rattle.consensus.specs.declared.Answer.{Answer}

@@ -16,12 +16,13 @@ use Rattle.tally.specs.declared.Estimate.{Estimate}
 use Rattle.tally.specs.declared.Estimate.the-variants.{Blank, Split, Mileage}
 use Rattle.tally.proofs.Never.{never}
 use Rattle.contents.specs.Logs.{settingsOk}
+use Rattle.contents.specs.Messages.{emptyMessage}
 use Rattle.contents.specs.declared.Kind.{Kind}
 use Rattle.contents.specs.declared.Kind.the-variants.{Empty, First, Check, Second, Skip}
 use Rattle.contents.specs.declared.Message.{Message}
 use Rattle.consensus.specs.Methods.{propose, deliver, keyOff, keyOn}
 use Rattle.consensus.specs.Sound.{From, Sound}
-use Rattle.consensus.specs.Step.{emptyMessage, fresh, proposed}
+use Rattle.consensus.specs.Step.{fresh, proposed}
 use Rattle.consensus.specs.Units.{WellFormed, atLog}
 use Rattle.consensus.specs.declared.Answer.{Answer}
 use Rattle.consensus.specs.declared.Unit as U

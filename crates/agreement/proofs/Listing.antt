@@ -10,9 +10,9 @@ use Rattle.tally.specs.Limits.{today, logSize, imageSize, messageSize}
 use Rattle.tally.specs.declared.Engine.the-variants.{B, R}
 use Rattle.tally.specs.Gathered.{holders, allHold, common, firstPassing, leads, majority}
 use Rattle.tally.specs.Tally.{noMarks, mark, gatheredFrom, gathered}
-use Rattle.contents.specs.Estimates.{mileageOrBlank, mileageOrSplit, secondFits, sameMileage}
+use Rattle.contents.specs.Estimates.{mileageOrBlank, mileageOrSplit, secondEstimateOk, sameMileage}
 use Rattle.contents.specs.Logs.{stateOk, logOk}
-use Rattle.contents.specs.Images.{every, placeOk, placesOk, tallyOk, checksAllowed, imageOk, sameSettings, stateFits, fits}
+use Rattle.contents.specs.Images.{every, cellOk, cellsOk, tallyOk, checksAllowed, imageOk, sameSettings, stateFits, fits}
 use Rattle.contents.specs.Messages.{firstOk, checkOk, secondOk, skipOk, kindOk, messageOk}
 use Rattle.formats.specs.Numbers.{numAt, bytesOf}
 use Rattle.formats.specs.Logs.{readLog}
@@ -131,7 +131,7 @@ pub record Majority (w : ByteWorld) : Type 0 where
 -- all starts are accepted
 pub computed : (starts of3 ≡ replicate 3 0) × (OfListing (after′ of3 listing) × ((starts of4 ≡ replicate 4 0) × Majority (after′ of4 of-r)))
 unfolding ones holders allHold common firstPassing leads majority noMarks mark gatheredFrom gathered
-    mileageOrBlank mileageOrSplit secondFits sameMileage stateOk logOk every placeOk placesOk tallyOk checksAllowed imageOk sameSettings stateFits fits
+    mileageOrBlank mileageOrSplit secondEstimateOk sameMileage stateOk logOk every cellOk cellsOk tallyOk checksAllowed imageOk sameSettings stateFits fits
     firstOk checkOk secondOk skipOk kindOk messageOk numAt bytesOf readLog readMessage cleared readImage imageBytes firstOf atLog downUnit says logWrite
     atRound fresh recovered sendFirst proposed takeFirst onFirst isFull takeSecond countCheck checksWith onCheck nextProposal close countSecond
     secondsWith onSecond onKind skip caughtUp received forOther outOfRange closesLast unless proposeConditions propose deliverConditions deliver keyOn

@@ -22,7 +22,7 @@ use Rattle.calls.specs.Calls.{CallAnswer, Refusing, logBytes}
 use Rattle.calls.specs.Fields.{readCall, writeCall, readLogCall, writeLogCall, readMessageCall, writeMessageCall}
 use Rattle.calls.proofs.Encoded.{read-log, read-image}
 use Rattle.calls.proofs.Refusals.{start-refusing, key-on-refusing, propose-refusing, deliver-refusing}
-use Rattle.agreement.specs.Bytes.{ByteWorld, Lent, logOf, imageOf, other, Call, starts, keysOn, proposes, delivers, readsLog, readsMessage, writesLog}
+use Rattle.agreement.specs.Bytes.{ByteWorld, Lent, lentLog, lentImage, other, Call, starts, keysOn, proposes, delivers, readsLog, readsMessage, writesLog}
 use Rattle.agreement.specs.Bytes.{writesMessage, lentBytes, bytesOr, imageLeft, Exit, runCall, ended, leave, leaveAll}
 use Rattle.agreement.specs.Contents.{ContentsWorld}
 use Rattle.agreement.specs.Encoded.{unitBytesAt, Encodes}
@@ -72,10 +72,10 @@ unfolding cleared
 cleared-other l bs n = rw (ne-eqb (length bs) (messageSize l) n)
 
 -- what is left in a unit's log or image is what it had
-abbrev VotesStand : Limits → ℕ → ContentsWorld → Lent → List ℕ → Type 0
-VotesStand l n w (logOf u) bs = u < n → bs ≡ logBytes l (unitLog (w .units u))
-VotesStand l n w (imageOf u) bs = u < n → w .units u .power ≡ Up → bs ≡ imageBytes l (unitImage (w .units u))
-VotesStand l n w (other cs) bs = Unit
+abbrev LentStays : Limits → ℕ → ContentsWorld → Lent → List ℕ → Type 0
+LentStays l n w (lentLog u) bs = u < n → bs ≡ logBytes l (unitLog (w .units u))
+LentStays l n w (lentImage u) bs = u < n → w .units u .power ≡ Up → bs ≡ imageBytes l (unitImage (w .units u))
+LentStays l n w (other cs) bs = Unit
 
 module _ (l : Limits) (sane : Sane l) (n : ℕ) (w : ContentsWorld) (valid : Valid l n w) where
   module _ (b : ByteWorld) (enc : Encodes l n b w) where
@@ -90,22 +90,22 @@ module _ (l : Limits) (sane : Sane l) (n : ℕ) (w : ContentsWorld) (valid : Val
     has-image u h on = rw (enc .units u h, on)
 
     -- a log or an image is longer than a message
-    stays-kept : (lent : Lent) (bs : List ℕ) → (bs ≡ lentBytes b lent) ⊎ (bs ≡ cleared l (lentBytes b lent)) → VotesStand l n w lent bs
-    stays-kept (logOf u) bs (inl e) = λ h. e ∙ has-log u h
-    stays-kept (logOf u) bs (inr e) =
+    stays-kept : (lent : Lent) (bs : List ℕ) → (bs ≡ lentBytes b lent) ⊎ (bs ≡ cleared l (lentBytes b lent)) → LentStays l n w lent bs
+    stays-kept (lentLog u) bs (inl e) = λ h. e ∙ has-log u h
+    stays-kept (lentLog u) bs (inr e) =
         λ h. e ∙ ap (cleared l) (has-log u h) ∙ cleared-other l _ (λ q. omega (arith, read-log l sane (unitLog (w .units u)) (valid .units u h .log) .1))
-    stays-kept (imageOf u) bs (inl e) = λ h on. e ∙ has-image u h on
-    stays-kept (imageOf u) bs (inr e) =
+    stays-kept (lentImage u) bs (inl e) = λ h on. e ∙ has-image u h on
+    stays-kept (lentImage u) bs (inr e) =
         λ h on. e ∙ ap (cleared l) (has-image u h on) ∙ cleared-other l _ (λ q. omega (arith, read-image l sane (w .units u) (valid .units u h) .1))
     stays-kept (other cs) bs e = tt
 
-    encodes-leave : (lent : Lent) (bs : List ℕ) → VotesStand l n w lent bs → Encodes l n (leave b lent bs) w
-    encodes-leave (logOf u) bs k = encodes-same l n b w enc u _ (λ h. rw (k h, enc .units u h) (go (w .units u .power)))
+    encodes-leave : (lent : Lent) (bs : List ℕ) → LentStays l n w lent bs → Encodes l n (leave b lent bs) w
+    encodes-leave (lentLog u) bs k = encodes-same l n b w enc u _ (λ h. rw (k h, enc .units u h) (go (w .units u .power)))
       where
         go : (p : Power) → record { log = logBytes l (unitLog (w .units u)); image = unitBytesAt l p (w .units u) .image } ≡ unitBytesAt l p (w .units u)
         go Up = refl
         go Down = refl
-    encodes-leave (imageOf u) bs k = encodes-same l n b w enc u _ (λ h. rw (enc .units u h) (go (w .units u .power) (k h)))
+    encodes-leave (lentImage u) bs k = encodes-same l n b w enc u _ (λ h. rw (enc .units u h) (go (w .units u .power) (k h)))
       where
         go : (p : Power) → (p ≡ Up → bs ≡ imageBytes l (unitImage (w .units u)))
             → record { log = unitBytesAt l p (w .units u) .log; image = imageLeft (unitBytesAt l p (w .units u) .image) bs } ≡ unitBytesAt l p (w .units u)
@@ -113,7 +113,7 @@ module _ (l : Limits) (sane : Sane l) (n : ℕ) (w : ContentsWorld) (valid : Val
         go Down k = refl
     encodes-leave (other cs) bs k = enc
 
-  encodes-all : (b : ByteWorld) → Encodes l n b w → (xs : List Exit) → Each (λ x. VotesStand l n w (x .lent) (x .bytes)) xs → Encodes l n (leaveAll b xs) w
+  encodes-all : (b : ByteWorld) → Encodes l n b w → (xs : List Exit) → Each (λ x. LentStays l n w (x .lent) (x .bytes)) xs → Encodes l n (leaveAll b xs) w
   unfolding leaveAll
   encodes-all b enc [] k = enc
   encodes-all b enc (x ∷ xs) k = encodes-all (leave b (x .lent) (x .bytes)) (encodes-leave b enc (x .lent) (x .bytes) (k .0)) xs (k .1)

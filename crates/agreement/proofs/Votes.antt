@@ -4,7 +4,7 @@ use mathlib.Core.Path.{_≡_, refl, sym, _∙_}
 use mathlib.Core.Bool.{Bool, true, false}
 use native.Mathlib.Omega.{arith}
 use borrow.Author.Tests.{eq-eqb}
-use Rattle.tally.specs.Gathered.{holds}
+use Rattle.tally.specs.Gathered.{hasValue}
 use Rattle.tally.specs.Quorum.{quorumOf}
 use Rattle.tally.specs.declared.Estimate.{Estimate}
 use Rattle.tally.specs.declared.Estimate.the-variants.{Blank, Split, Mileage}
@@ -35,7 +35,7 @@ of-map f Blank h = tt
 of-map f Split h = tt
 of-map f (Mileage v) h = f v h
 
-pub holds-not : (v : ℕ) (e : Estimate) → holds v e ≡ false → e ≡ Mileage v → ⊥
+pub holds-not : (v : ℕ) (e : Estimate) → hasValue v e ≡ false → e ≡ Mileage v → ⊥
 holds-not v e h p = never (sym h ∙ rw p (eq-eqb v v refl))
 
 -- ---- so many units each with a fact
@@ -71,7 +71,7 @@ pub record Vote (X : Message → Type 0) (k : Kind) (u r : ℕ) (e : Estimate) :
 pub record Other (X : Message → Type 0) (r v u : ℕ) : Type 0 where
   pub estimate : Estimate
   pub vote : Vote X Second u r estimate
-  pub differs : holds v estimate ≡ false
+  pub differs : hasValue v estimate ≡ false
 
 -- votes of one kind, unit and round are the same
 abbrev pub Unique : (Message → Type 0) → Type 0
@@ -96,7 +96,7 @@ Blocked c X r v = Many (c .n) (c .n + 1 - quorum c) (Other X r v)
 
 -- every mileage but p is blocked in every round below r
 abbrev pub Safe : Setup → (Message → Type 0) → ℕ → Estimate → Type 0
-Safe c X r p = (r₀ v : ℕ) → r₀ < r → holds v p ≡ false → Blocked c X r₀ v
+Safe c X r p = (r₀ v : ℕ) → r₀ < r → hasValue v p ≡ false → Blocked c X r₀ v
 
 -- and p, if a mileage, was proposed
 abbrev pub Sure : Setup → (Message → Type 0) → (ℕ → Type 0) → ℕ → Estimate → Type 0
@@ -131,9 +131,9 @@ module _ (c : Setup) (X : Message → Type 0) (unique : Unique X) where
 
   -- above the round of a quorum of SECONDs only its mileage is safe
   pub locked : (r v s : ℕ) (p : Estimate) → Quorum c X Second r (Mileage v) → r < s → Safe c X s p → p ≡ Mileage v
-  locked r v s p a h safe = go (holds v p) refl
+  locked r v s p a h safe = go (hasValue v p) refl
     where
-      go : (b : Bool) → holds v p ≡ b → p ≡ Mileage v
+      go : (b : Bool) → hasValue v p ≡ b → p ≡ Mileage v
       go true e = holds-mileage v p e
       go false e =
           let o = meet (omega arith) a (safe r v h e) in

@@ -32,7 +32,7 @@ ByteWorld = World UnitBytes (List ℕ)
 -- a buffer that a host lends: the log or the image of a unit, or any other. Two of one call may be the same, which does no harm: such a call is
 -- an event only where it is refused
 pub data Lent : Type 0 where
-  logOf imageOf : ℕ → Lent
+  lentLog lentImage : ℕ → Lent
   other : List ℕ → Lent
 
 -- any call of any entry, with any numbers and buffers
@@ -119,8 +119,8 @@ bytesOr none = []
 bytesOr (some bs) = bs
 
 abbrev pub lentBytes : ByteWorld → Lent → List ℕ
-lentBytes w (logOf u) = w .units u .log
-lentBytes w (imageOf u) = bytesOr (w .units u .image)
+lentBytes w (lentLog u) = w .units u .log
+lentBytes w (lentImage u) = bytesOr (w .units u .image)
 lentBytes w (other bs) = bs
 
 -- what a call leaves: its number, and the bytes in each buffer at exit
@@ -158,8 +158,8 @@ imageLeft none bs = none
 imageLeft (some i) bs = some bs
 
 abbrev pub leave : ByteWorld → Lent → List ℕ → ByteWorld
-leave w (logOf u) bs = change w u (record { log = bs; image = w .units u .image })
-leave w (imageOf u) bs = change w u (record { log = w .units u .log; image = imageLeft (w .units u .image) bs })
+leave w (lentLog u) bs = change w u (record { log = bs; image = w .units u .image })
+leave w (lentImage u) bs = change w u (record { log = w .units u .log; image = imageLeft (w .units u .image) bs })
 leave w (other cs) bs = w
 
 unfoldable pub leaveAll : ByteWorld → List Exit → ByteWorld

@@ -51,7 +51,7 @@ pub(crate) fn listing_line(index: u32, e: ScriptEvent, answer: LineAnswer) -> Li
     let decision = answer.decision;
     ListingLine {
         index,
-        letter: events::letter_of(e),
+        letter: events::event_letter(e),
         unit: unit_shown(e),
         number: tally::number(refusal),
         sent: sent_shown(sent),

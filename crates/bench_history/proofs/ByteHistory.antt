@@ -53,8 +53,8 @@ out-size l = length-replicate (messageSize l) 0
 
 module _ (l : Limits) (sane : Sane l) (n : ℕ) (c : B.ByteWorld) (w : C.ContentsWorld) (enc : Encodes l n c w) (ok : Valid l n w)
     (u : ℕ) (below : u < n) where
-  abbrev Follows : B.Event → C.ContentsEvent → Type 0
-  Follows x e = Encodes l n (B.step l n c x) (C.step l n w e)
+  abbrev AsContents : B.Event → C.ContentsEvent → Type 0
+  AsContents x e = Encodes l n (B.step l n c x) (C.step l n w e)
 
   pub up-image : w .units u .power ≡ Up → c .units u .image ≡ some (imageBytes l (unitImage (w .units u)))
   up-image on = rw (enc .units u below, on)
@@ -63,7 +63,7 @@ module _ (l : Limits) (sane : Sane l) (n : ℕ) (c : B.ByteWorld) (w : C.Content
   no-image off = rw (enc .units u below, off)
 
   byte-proposal : (v : ℕ) → w .units u .power ≡ Up → Accepts (propose l (w .units u) v)
-      → Follows (B.proposal u v (emptyBytes l)) (C.proposal u v)
+      → AsContents (B.proposal u v (emptyBytes l)) (C.proposal u v)
   unfolding B.step B.proposalOf
   byte-proposal v on number =
       rw (
@@ -90,23 +90,23 @@ module _ (l : Limits) (sane : Sane l) (n : ℕ) (c : B.ByteWorld) (w : C.Content
           ≡ answered l (deliver l (w .units u) m)
       called = deliver-encoded l sane (w .units u) (ok .units u below) on m (emptyBytes l) kept-ok (out-size l)
 
-      byte-delivery : Accepts (deliver l (w .units u) m) → Follows (B.delivery u k (emptyBytes l)) (C.delivery u k)
+      byte-delivery : Accepts (deliver l (w .units u) m) → AsContents (B.delivery u k (emptyBytes l)) (C.delivery u k)
       unfolding B.step B.delivering
       byte-delivery number =
           rw (lt-ltb u n below, up-image on, kept-bytes, has-log l sane n w ok c enc u below, called, kept-round)
           (step-delivery l sane n c w enc ok u below on (emptyBytes l) m kept-ok k there number)
 
-      byte-cut : Accepts (deliver l (w .units u) m) → Follows (B.cut u k (emptyBytes l)) (C.cut u k)
+      byte-cut : Accepts (deliver l (w .units u) m) → AsContents (B.cut u k (emptyBytes l)) (C.cut u k)
       unfolding B.step B.delivering
       byte-cut number =
           rw (lt-ltb u n below, up-image on, kept-bytes, has-log l sane n w ok c enc u below, called)
           (step-cut l sane n c w enc ok u below on (emptyBytes l) m kept-ok k there number)
 
-  byte-off : Follows (B.off u) (C.off u)
+  byte-off : AsContents (B.off u) (C.off u)
   unfolding B.step
   byte-off = rw (lt-ltb u n below) (step-off l sane n c w enc ok u below)
 
-  byte-on : w .units u .power ≡ Down → Follows (B.on u (zeros (imageSize l))) (C.on u)
+  byte-on : w .units u .power ≡ Down → AsContents (B.on u (zeros (imageSize l))) (C.on u)
   unfolding B.step B.keyOnOf
   byte-on off =
       rw (lt-ltb u n below, no-image off, has-log l sane n w ok c enc u below)

@@ -18,7 +18,7 @@ use Rattle.bench_play.specs.Bench.{start}
 use Rattle.bench_play.specs.Play.{Played, answer, play, benchAfter}
 use Rattle.bench_play.specs.declared.Bench.{Bench}
 use Rattle.bench_history.specs.Covered.{ProposedIn}
-use Rattle.bench_history.specs.History.{setupOf, Below, lineAccepted, ofAccepted, contentsEvent, eventProposals, proposals, Decided, decidedOf, decisions}
+use Rattle.bench_history.specs.History.{setupOf, Below, lineAccepted, ofAccepted, contentsEvent, eventProposals, proposals, ShownDecision, decidedOf, decisions}
 use Rattle.bench_history.specs.History.{withoutRound, Shows, contentsAfter}
 use Rattle.bench_history.proofs.Lists.{flat-in, flat-from}
 use Rattle.bench_play.proofs.PlayedLines.{played, reached-sized}
@@ -39,7 +39,7 @@ shown-decided n b lines w shows p here v e =
     let shown : List·Memᴰ (record { unit = eventUnit (p .event); mileage = v }) (map withoutRound (w .decided)) =
     rw (shows .decided) (flat-in (λ (q : Played). decidedOf (eventUnit (q .event)) (q .answer .decision)) lines here (rw e (List·Memᴰ·head refl))) in
     let d = Memᴰ·of-map withoutRound (w .decided) shown in
-    (d .0, (d .1, ap (λ (x : Decided). x .mileage) (d .2)))
+    (d .0, (d .1, ap (λ (x : ShownDecision). x .mileage) (d .2)))
 
 -- a proposal of the world is on an accepted line
 of-proposal : (p : Played) (q : Proposal) → List·Memᴰ q (ofAccepted eventProposals p)

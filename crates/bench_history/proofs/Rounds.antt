@@ -11,11 +11,11 @@ use borrow.Author.Tests.{eqb-true, eqb-false}
 use Rattle.tally.specs.Limits.{Limits, places, senders}
 use Rattle.tally.specs.Refusal.{numberOf}
 use Rattle.tally.proofs.Never.{never}
-use Rattle.contents.specs.Messages.{messageOk}
+use Rattle.contents.specs.Messages.{messageOk, emptyMessage}
 use Rattle.contents.specs.declared.Kind.{Kind}
 use Rattle.contents.specs.declared.Message.{Message}
 use Rattle.consensus.specs.Methods.{closesLast, proposeConditions, propose, deliverConditions, deliver, keyOff, keyOn}
-use Rattle.consensus.specs.Step.{emptyMessage, says, logWrite, atRound, fresh, recovered, sendFirst, proposed, takeFirst, takeSecond, close, onKind, skip}
+use Rattle.consensus.specs.Step.{says, logWrite, atRound, fresh, recovered, sendFirst, proposed, takeFirst, takeSecond, close, onKind, skip}
 use Rattle.consensus.specs.Step.{received}
 use Rattle.consensus.specs.Units.{atLog, downUnit}
 use Rattle.consensus.specs.declared.Answer.{Answer}

@@ -81,20 +81,20 @@ unfoldable pub proposals : List Played → List Proposal
 proposals lines = flatMap (ofAccepted eventProposals) lines
 
 -- the decisions shown, in order: a mileage, and the unit of the line
-pub record Decided : Type 0 where
+pub record ShownDecision : Type 0 where
   pub unit : ℕ
   pub mileage : ℕ
 
-abbrev pub decidedOf : ℕ → Estimate → List Decided
+abbrev pub decidedOf : ℕ → Estimate → List ShownDecision
 decidedOf u Blank = []
 decidedOf u Split = []
 decidedOf u (Mileage v) = record { unit = u; mileage = v } ∷ []
 
-unfoldable pub decisions : List Played → List Decided
+unfoldable pub decisions : List Played → List ShownDecision
 decisions lines = flatMap (λ (p : Played). decidedOf (eventUnit (p .event)) (p .answer .decision)) lines
 
 -- a decision of agreement, without its round
-abbrev pub withoutRound : Decision → Decided
+abbrev pub withoutRound : Decision → ShownDecision
 withoutRound d = record { unit = d .unit; mileage = d .mileage }
 
 -- ---- the bench and the worlds

@@ -23,14 +23,14 @@ use Rattle.bench_play.specs.Bench.{unitAt, messageAt}
 use Rattle.bench_play.specs.Play.{deliveryConditions, delivery, cutShort, unitAnswer, answer}
 use Rattle.bench_play.specs.declared.Bench.{Bench}
 use Rattle.bench_play.specs.declared.LineAnswer.{LineAnswer}
-use Rattle.bench_play.specs.Claims.{Sized, WouldSend, Sending, proposing, delivering, NoPlace}
+use Rattle.bench_play.specs.Claims.{Sized, WouldSend, Sending, ofP, ofD, NoPlace}
 use Rattle.bench_play.proofs.Accepting.{cut-accepted, off-accepted, on-accepted}
 use Rattle.bench_play.proofs.Settled.{by-answer}
 
 -- ---- a unit's own refusals
 
 -- a fact of every refusal that unit u of the bench can give
-pub record Each (Q : Refusal → Type 0) (l : Limits) (b : Bench) (u : ℕ) : Type 0 where
+pub record EachRefusal (Q : Refusal → Type 0) (l : Limits) (b : Bench) (u : ℕ) : Type 0 where
   pub none : Q Refusal.None
   pub line : Q Refusal.Line
   pub power : Q Refusal.Power
@@ -65,7 +65,7 @@ module _ (Q : Refusal → Type 0) where
       go true e = accepted (eqb-true _ _ e)
       go false e = first-of none cs h
 
-  module _ (l : Limits) (b : Bench) (u : ℕ) (each : Each Q l b u) where
+  module _ (l : Limits) (b : Bench) (u : ℕ) (each : EachRefusal Q l b u) where
     of-propose : (v : ℕ) → Q (propose l (unitAt b u) v .refusal)
     unfolding propose proposeConditions
     of-propose v =
@@ -98,7 +98,7 @@ module _ (Q : Refusal → Type 0) where
         go true = of-key-off (a .unit)
         go false = own
 
-  pub of-unit : (l : Limits) (b : Bench) (e : ScriptEvent) → Each Q l b (eventUnit e) → Q (unitAnswer l b e .refusal)
+  pub of-unit : (l : Limits) (b : Bench) (e : ScriptEvent) → EachRefusal Q l b (eventUnit e) → Q (unitAnswer l b e .refusal)
   unfolding unitAnswer
   of-unit l b ScriptEvent.Malformed each = each .line
   of-unit l b (ScriptEvent.Propose u v) each = of-propose l b u each v
@@ -128,8 +128,8 @@ own-below l b e =
 sending : (l : Limits) (b : Bench) (e : ScriptEvent) → WouldSend l b e → Sending e
 unfolding unitAnswer
 sending l b ScriptEvent.Malformed w = absurd (omega (arith, w .accepted))
-sending l b (ScriptEvent.Propose u v) w = proposing
-sending l b (ScriptEvent.Deliver u k) w = delivering
+sending l b (ScriptEvent.Propose u v) w = ofP
+sending l b (ScriptEvent.Deliver u k) w = ofD
 sending l b (ScriptEvent.Cut u k) w =
     let c = cut-accepted (delivery l b u k) (w .accepted) in
     let off = off-accepted (delivery l b u k .unit) (rw (c .1) at (w .accepted)) in

@@ -12,7 +12,7 @@ use lib.Seq.{getD-set-same, getD-set-other}
 use borrow.Author.Tests.{eqb-true, eqb-false}
 use Rattle.tally.specs.Limits.{Limits, places, senders}
 use Rattle.tally.specs.Refusal.{numberOf}
-use Rattle.consensus.specs.Step.{emptyMessage}
+use Rattle.contents.specs.Messages.{emptyMessage}
 use Rattle.consensus.specs.declared.Unit as U
 use Rattle.script.specs.Script.{eventUnit}
 use Rattle.script.specs.declared.ScriptEvent.{ScriptEvent}

@@ -10,10 +10,10 @@ use Rattle.tally.specs.declared.Engine.the-variants.{B}
 use Rattle.tally.specs.declared.Estimate.{Estimate}
 use Rattle.tally.specs.declared.Estimate.the-variants.{Blank}
 use Rattle.tally.specs.declared.Refusal.{Refusal}
-use Rattle.contents.specs.Messages.{isEmpty}
+use Rattle.contents.specs.Messages.{isEmpty, emptyMessage}
 use Rattle.contents.specs.declared.Message.{Message}
 use Rattle.contents.specs.declared.Settings.{Settings}
-use Rattle.consensus.specs.Step.{emptyMessage, fresh, clean}
+use Rattle.consensus.specs.Step.{fresh, clean}
 use Rattle.consensus.specs.declared.Answer.{Answer}
 use Rattle.consensus.specs.declared.Power.the-variants.{Down}
 use Rattle.consensus.specs.declared.Unit as U

@@ -38,8 +38,8 @@ pub record WouldSend (l : Limits) (b : Bench) (e : ScriptEvent) : Type 0 where
 
 -- P or D
 pub data Sending : ScriptEvent → Type 0 where
-  proposing : {u v : ℕ} → Sending (ScriptEvent.Propose u v)
-  delivering : {u k : ℕ} → Sending (ScriptEvent.Deliver u k)
+  ofP : {u v : ℕ} → Sending (ScriptEvent.Propose u v)
+  ofD : {u k : ℕ} → Sending (ScriptEvent.Deliver u k)
 
 -- 11: all places are filled, and the event, a P or a D, would send
 pub record NoPlace (l : Limits) (b : Bench) (e : ScriptEvent) : Type 0 where

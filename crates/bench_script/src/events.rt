@@ -1,53 +1,53 @@
 // The event of a line.
 use super::numbers;
 use super::parts;
-use script::Number;
-use script::Pair;
+use script::NumberRead;
+use script::PairRead;
 use script::ScriptEvent;
 ghost use mathlib.Core.Path.{_≡_};
 ghost use Rattle.script.specs.Parts.{comma, parted};
 ghost use Rattle.script.specs.Script.{oneOf, twoOf, unitBelow, pairBelow, byLetter, eventLetter, eventOf};
 
 // A unit number of n or more is malformed.
-fn unit_below(n: u8, a: Number) -> Number
+fn unit_below(n: u8, a: NumberRead) -> NumberRead
     ensures { λ r. ⌜ r ≡ unitBelow n a ⌝ }
 {
     match a {
-        Number::Is(u) => {
+        NumberRead::Is(u) => {
             if u < n as u32 {
-                Number::Is(u)
+                NumberRead::Is(u)
             } else {
-                Number::Malformed
+                NumberRead::Malformed
             }
         }
-        Number::Malformed => Number::Malformed,
+        NumberRead::Malformed => NumberRead::Malformed,
     }
 }
 
-fn pair_below(n: u8, p: Pair) -> Pair
+fn pair_below(n: u8, p: PairRead) -> PairRead
     ensures { λ r. ⌜ r ≡ pairBelow n p ⌝ }
 {
     match p {
-        Pair::Are(u, x) => {
+        PairRead::Are(u, x) => {
             if u < n as u32 {
-                Pair::Are(u, x)
+                PairRead::Are(u, x)
             } else {
-                Pair::Malformed
+                PairRead::Malformed
             }
         }
-        Pair::Malformed => Pair::Malformed,
+        PairRead::Malformed => PairRead::Malformed,
     }
 }
 
 // The unit that the rest of a line says.
-fn unit_of(n: u8, rest: &[u8]) -> Number
+fn unit_of(n: u8, rest: &[u8]) -> NumberRead
     ensures { λ r. ⌜ r ≡ unitBelow n (oneOf (parted comma (now (rest .entry)))) ⌝ }
 {
     unit_below(n, numbers::one(rest))
 }
 
 // The unit, and a mileage or a message number.
-fn pair_of(n: u8, rest: &[u8]) -> Pair
+fn pair_of(n: u8, rest: &[u8]) -> PairRead
     ensures { λ r. ⌜ r ≡ pairBelow n (twoOf (parted comma (now (rest .entry)))) ⌝ }
 {
     pair_below(n, numbers::two(rest))
@@ -59,24 +59,24 @@ fn by_letter(n: u8, letter: u8, rest: &[u8]) -> ScriptEvent
 {
     match letter {
         b'P' => match pair_of(n, rest) {
-            Pair::Are(u, v) => ScriptEvent::Propose(u, v),
-            Pair::Malformed => ScriptEvent::Malformed,
+            PairRead::Are(u, v) => ScriptEvent::Propose(u, v),
+            PairRead::Malformed => ScriptEvent::Malformed,
         },
         b'D' => match pair_of(n, rest) {
-            Pair::Are(u, k) => ScriptEvent::Deliver(u, k),
-            Pair::Malformed => ScriptEvent::Malformed,
+            PairRead::Are(u, k) => ScriptEvent::Deliver(u, k),
+            PairRead::Malformed => ScriptEvent::Malformed,
         },
         b'W' => match pair_of(n, rest) {
-            Pair::Are(u, k) => ScriptEvent::Cut(u, k),
-            Pair::Malformed => ScriptEvent::Malformed,
+            PairRead::Are(u, k) => ScriptEvent::Cut(u, k),
+            PairRead::Malformed => ScriptEvent::Malformed,
         },
         b'K' => match unit_of(n, rest) {
-            Number::Is(u) => ScriptEvent::KeyOff(u),
-            Number::Malformed => ScriptEvent::Malformed,
+            NumberRead::Is(u) => ScriptEvent::KeyOff(u),
+            NumberRead::Malformed => ScriptEvent::Malformed,
         },
         b'U' => match unit_of(n, rest) {
-            Number::Is(u) => ScriptEvent::KeyOn(u),
-            Number::Malformed => ScriptEvent::Malformed,
+            NumberRead::Is(u) => ScriptEvent::KeyOn(u),
+            NumberRead::Malformed => ScriptEvent::Malformed,
         },
         _ => ScriptEvent::Malformed,
     }
@@ -85,7 +85,7 @@ fn by_letter(n: u8, letter: u8, rest: &[u8]) -> ScriptEvent
 pub const QUESTION_MARK: u8 = b'?';
 
 // The letter of an event, as a listing shows it.
-pub fn letter_of(e: ScriptEvent) -> u8
+pub fn event_letter(e: ScriptEvent) -> u8
     ensures { λ r. ⌜ r ≡ eventLetter e ⌝ }
 {
     match e {

@@ -4,7 +4,7 @@ use super::parts;
 use formats::EngineRead;
 use script::Header;
 use script::HeaderRead;
-use script::Pair;
+use script::PairRead;
 use tally::Engine;
 use tally::limits;
 ghost use mathlib.Core.Path.{_≡_};
@@ -39,7 +39,7 @@ fn in_ranges(n: u32, entry: u32) -> bool
         & (entry <= limits::MAX_ENTRY as u32)
 }
 
-fn with_engine(engine: EngineRead, n: u32, entry: u32) -> HeaderRead
+fn header_with(engine: EngineRead, n: u32, entry: u32) -> HeaderRead
     requires { ⌜ inRanges n entry ≡ true ⌝ }
     ensures { λ r. ⌜ r ≡ headerWith engine n entry ⌝ }
 {
@@ -53,18 +53,18 @@ fn with_engine(engine: EngineRead, n: u32, entry: u32) -> HeaderRead
     }
 }
 
-fn with_numbers(f: &[u8], p: Pair) -> HeaderRead
+fn with_numbers(f: &[u8], p: PairRead) -> HeaderRead
     ensures { λ r. ⌜ r ≡ withNumbers (now (f .entry)) p ⌝ }
 {
     match p {
-        Pair::Are(n, entry) => {
+        PairRead::Are(n, entry) => {
             if in_ranges(n, entry) {
-                with_engine(engine_field(n, f), n, entry)
+                header_with(engine_field(n, f), n, entry)
             } else {
                 HeaderRead::Malformed
             }
         }
-        Pair::Malformed => HeaderRead::Malformed,
+        PairRead::Malformed => HeaderRead::Malformed,
     }
 }
 

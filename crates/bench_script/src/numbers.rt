@@ -1,7 +1,7 @@
 // The numbers of a script.
 use super::parts;
-use script::Number;
-use script::Pair;
+use script::NumberRead;
+use script::PairRead;
 ghost use mathlib.Core.Path.{_≡_};
 ghost use mathlib.Core.Bool.{true};
 ghost use Prim.Native.Nat.{_≤_};
@@ -62,57 +62,57 @@ fn value(s: &[u8]) -> u64
 }
 
 // A number of a script: 1 to 10 digits, no leading zero, at most 4,294,967,295.
-pub fn number(s: &[u8]) -> Number
+pub fn read_number(s: &[u8]) -> NumberRead
     ensures { λ r. ⌜ r ≡ readNumber (now (s .entry)) ⌝ }
 {
     if s.len() < 1 {
-        return Number::Malformed;
+        return NumberRead::Malformed;
     }
     if MAX_DIGITS < s.len() {
-        return Number::Malformed;
+        return NumberRead::Malformed;
     }
     if !all_digits(s) {
-        return Number::Malformed;
+        return NumberRead::Malformed;
     }
     if leading_zero(s) {
-        return Number::Malformed;
+        return NumberRead::Malformed;
     }
     let v = value(s);
     if v <= MAX_NUMBER {
-        Number::Is(v as u32)
+        NumberRead::Is(v as u32)
     } else {
-        Number::Malformed
+        NumberRead::Malformed
     }
 }
 
-fn both(a: Number, b: Number) -> Pair
+fn both(a: NumberRead, b: NumberRead) -> PairRead
     ensures { λ r. ⌜ r ≡ both a b ⌝ }
 {
     match a {
-        Number::Is(x) => match b {
-            Number::Is(y) => Pair::Are(x, y),
-            Number::Malformed => Pair::Malformed,
+        NumberRead::Is(x) => match b {
+            NumberRead::Is(y) => PairRead::Are(x, y),
+            NumberRead::Malformed => PairRead::Malformed,
         },
-        Number::Malformed => Pair::Malformed,
+        NumberRead::Malformed => PairRead::Malformed,
     }
 }
 
 // One field that is a number: a comma is no digit.
-pub fn one(s: &[u8]) -> Number
+pub fn one(s: &[u8]) -> NumberRead
     ensures { λ r. ⌜ r ≡ oneOf (parted comma (now (s .entry))) ⌝ }
 {
-    number(s)
+    read_number(s)
 }
 
 // Two fields that are numbers.
-pub fn two(s: &[u8]) -> Pair
+pub fn two(s: &[u8]) -> PairRead
     ensures { λ r. ⌜ r ≡ twoOf (parted comma (now (s .entry))) ⌝ }
 {
     let e = parts::before(s, parts::COMMA);
     if s.len() <= e {
-        return Pair::Malformed;
+        return PairRead::Malformed;
     }
-    let a = number(&s[..e]);
-    let b = number(&s[e + 1..]);
+    let a = read_number(&s[..e]);
+    let b = read_number(&s[e + 1..]);
     both(a, b)
 }

@@ -9,7 +9,7 @@ use borrow.Author.Tests.{le-leb, lt-leb, ne-eqb}
 use lib.ListN.{length, getD, length-append, List·getD-append}
 use Rattle.contents.proofs.Tests.{both-true}
 use Rattle.script.specs.Numbers.{digitZero, digitNine, maxDigits, maxNumber, isDigit, allDigits, leadingZero, valueFrom, isNumber, readNumber}
-use Rattle.script.specs.declared.Number.{Number}
+use Rattle.script.specs.declared.NumberRead.{NumberRead}
 use Rattle.bench_text.specs.Text.{digits, decimal}
 use Rattle.bench_text.proofs.Digits.{few, many, lower, digits-short}
 
@@ -65,11 +65,11 @@ no-leading-zero n s r = go (decLt 0 n)
     go (yes l) = rw (ne-eqb (getD s 0 0) digitZero (r .first l), and-false)
     go (no g) = rw (lt-leb 2 (length s) (omega (arith, r .alone (omega arith))))
 
-says-read : (n : ℕ) (s : List ℕ) → Says n s → length s ≤ maxDigits → n ≤ maxNumber → readNumber s ≡ Number.Is n
+says-read : (n : ℕ) (s : List ℕ) → Says n s → length s ≤ maxDigits → n ≤ maxNumber → readNumber s ≡ NumberRead.Is n
 unfolding readNumber isNumber
 says-read n s r short most =
     simp (le-leb 1 (length s) (r .some), le-leb (length s) maxDigits short, r .all, no-leading-zero n s r, r .value, le-leb n maxNumber most)
 
-pub decimal-read : (n : ℕ) → n ≤ maxNumber → readNumber (decimal n) ≡ Number.Is n
+pub decimal-read : (n : ℕ) → n ≤ maxNumber → readNumber (decimal n) ≡ NumberRead.Is n
 unfolding decimal
 decimal-read n most = says-read n (digits maxDigits n) (digits-say maxDigits n (omega arith) (omega arith)) (digits-short maxDigits n) most

@@ -3,7 +3,6 @@ use Prim.Native.Nat.{ℕ}
 use mathlib.Core.Path.{_≡_, refl}
 use mathlib.Core.List.{List, [], _∷_, map}
 use Rattle.bench_text.specs.Text.{decimal, shownText, fieldText, headerText, lineText, endText}
-use Rattle.bench_text.specs.declared.ListingLine.{ListingLine}
 use Rattle.bench_text.specs.declared.Shown.{Shown}
 
 pub record Case : Type 0 where

@@ -32,7 +32,7 @@ pub fn be32(s: &[u8], at: usize) -> u32
     (be16(s, at) as u32) * 65536 + (be16(s, at + 2) as u32)
 }
 
-pub fn round_at(s: &[u8], at: usize) -> Round
+pub fn be_round(s: &[u8], at: usize) -> Round
     requires { ⌜ at + today .roundWidth ≤ length (now s) ⌝ }
     ensures { λ r. ⌜ r ≡ numAt (now (s .entry)) at (today .roundWidth) ⌝ }
 {

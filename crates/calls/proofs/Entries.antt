@@ -7,6 +7,7 @@ use native.Mathlib.Omega.{arith}
 use lib.Dec.{ltb}
 use lib.ListN.{length}
 use borrow.Author.Tests.{eqb-true, lt-ltb, ltb-true, not-false}
+use Rattle.contents.specs.Messages.{emptyMessage}
 use Rattle.tally.specs.Limits.{Limits, Sane, logSize, imageSize, messageSize}
 use Rattle.tally.specs.Refusal.{numberOf}
 use Rattle.tally.specs.declared.Refusal.{Refusal}
@@ -18,10 +19,11 @@ use Rattle.contents.specs.declared.Log.{Log}
 use Rattle.contents.proofs.Facts.{numbers-facts}
 use Rattle.contents.proofs.Tests.{both-true}
 use Rattle.formats.specs.Codes.{engineOf}
-use Rattle.formats.specs.Formats.{reading, stored}
+use Rattle.formats.specs.Formats.{reading}
 use Rattle.formats.specs.Images.{imageFormat, imageBytes}
 use Rattle.formats.specs.Logs.{logFormat, noLog, readLog}
-use Rattle.formats.specs.Messages.{messageFormat, noMessage, readMessage}
+use Rattle.formats.specs.Messages.{messageFormat, readMessage}
+use Rattle.formats.specs.InnerFormats.{stored}
 use Rattle.formats.specs.declared.EngineRead.{EngineRead}
 use Rattle.formats.specs.declared.EngineRead.the-variants.{Is, Unknown}
 use Rattle.formats.proofs.Letters.{letter-engine, letter-fits}
@@ -41,14 +43,14 @@ neither false true e = never (sym e)
 -- ---- the settings of a start
 
 -- numbers that fit the code's types
-pub record Small (engine n unit entry : ℕ) : Type 0 where
+pub record SettingsFit (engine n unit entry : ℕ) : Type 0 where
   pub small-engine : engine < 256 ^ 1
   pub small-n : n < 256 ^ 1
   pub small-unit : unit < 256 ^ 1
   pub small-entry : entry < 256 ^ 2
 
 module _ (engine n unit entry : ℕ) where
-  pub small : settingsNarrow engine n unit entry ≡ true → Small engine n unit entry
+  pub small : settingsNarrow engine n unit entry ≡ true → SettingsFit engine n unit entry
   unfolding settingsNarrow
   small h =
       let a = both-true (ltb engine (256 ^ 1) && ltb n (256 ^ 1) && ltb unit (256 ^ 1)) (ltb entry (256 ^ 2)) h in
@@ -62,9 +64,9 @@ module _ (engine n unit entry : ℕ) where
       }
 
   -- a number that is too large is out of its range, or no engine's letter
-  pub too-large : settingsNarrow engine n unit entry ≡ false → badSettings (engineOf engine) n unit entry ≡ true
+  pub settings-too-large : settingsNarrow engine n unit entry ≡ false → badSettings (engineOf engine) n unit entry ≡ true
   unfolding settingsNarrow badSettings
-  too-large h = go (engineOf engine) refl
+  settings-too-large h = go (engineOf engine) refl
     where
       go : (o : EngineRead) → engineOf engine ≡ o → badSettings o n unit entry ≡ true
       go Unknown e = refl
@@ -90,7 +92,7 @@ module _ (l : Limits) (sane : Sane l) (bs : List ℕ) where
   unfolding badLog readLog
   log-refused k e = rw (← e, refused-number (logFormat l) (λ r. Unit) (log.lawful l sane) bs (numberOf k) (sym e))
 
-  pub message-refused : (k : Refusal) → reading (numberOf k) noMessage ≡ readMessage l bs → badMessage l bs ≡ true
+  pub message-refused : (k : Refusal) → reading (numberOf k) emptyMessage ≡ readMessage l bs → badMessage l bs ≡ true
   unfolding badMessage readMessage
   message-refused k e = rw (← e, refused-number (messageFormat l) (λ m. Unit) (message.lawful l sane) bs (numberOf k) (sym e))
 

@@ -11,9 +11,9 @@ use Rattle.tally.specs.Limits.{today}
 use Rattle.tally.specs.Quorum.{quorumOf, majorityOf}
 use Rattle.tally.specs.Tally.{noMarks, mark, gatheredFrom, gathered}
 use Rattle.tally.specs.declared.Engine.{Engine}
-use Rattle.contents.specs.Estimates.{mileageOrBlank, mileageOrSplit, secondFits, sameMileage}
+use Rattle.contents.specs.Estimates.{mileageOrBlank, mileageOrSplit, secondEstimateOk, sameMileage}
 use Rattle.contents.specs.Logs.{stateOk, logOk}
-use Rattle.contents.specs.Images.{every, placeOk, placesOk, tallyOk, checksAllowed, imageOk, sameSettings, stateFits, fits}
+use Rattle.contents.specs.Images.{every, cellOk, cellsOk, tallyOk, checksAllowed, imageOk, sameSettings, stateFits, fits}
 use Rattle.contents.specs.Messages.{firstOk, checkOk, secondOk, skipOk, kindOk, messageOk}
 use Rattle.formats.specs.Numbers.{numAt, bytesOf}
 use Rattle.formats.specs.Logs.{readLog}
@@ -249,15 +249,16 @@ cases =
     ∷ refused 2 [] (keyOn bad (junk 152))
     ∷ refused 2 zeros (proposeTo bad 5)
     ∷ refused 2 zeros (deliverTo bad first)
-    -- 3: log at round 4, image at 3; an estimate that does not fit, at the log's round and above it; an image with a quorum of marks, and with
-    -- a CHECK mark beside a second estimate
+    -- 3: log at round 4, image at 3; an estimate that does not fit, at the log's round and above it; an image with a quorum of marks, with a CHECK
+    -- mark beside a second estimate, and with one in R
     ∷ refused 3 zeros (deliver (sixB 4) (unmarked (sixB 3)) first (junk 18))
     ∷ refused 3 zeros (propose freshB (unmarked (unitB 0 blank (mileage 5) blank)) 5 (junk 18))
     ∷ refused 3 zeros (propose freshB (unmarked (unitB 1 blank (mileage 5) blank)) 5 (junk 18))
     ∷ refused 3 zeros (propose freshB (unmarked (unitB 1 blank blank split)) 5 (junk 18))
     ∷ refused 3 zeros (propose freshB (image freshB (tally 0 []) (tally 3 (mileage 5 ++ mileage 5))) 5 (junk 18))
     ∷ refused 3 zeros (propose (unitB 0 blank blank split) (image (unitB 0 blank blank split) (tally 1 (mileage 5)) (tally 0 [])) 5 (junk 18))
-    -- 4: kind letter Z; the empty message; F, C and S to a single unit; K to everyone; K with an estimate
+    ∷ refused 3 zeros (propose sixR (image sixR (tally 1 (mileage 5)) (tally 0 [])) 5 (junk 18))
+    -- 4: kind letter Z; the empty message; F, C and S to a single unit; K to everyone; K with an estimate; F and C with two mileages; C in R
     ∷ refused 4 zeros (deliverTo freshB (inB Z 1 0 (mileage 5) (mileage 5)))
     ∷ refused 4 zeros (deliverTo freshB zeros)
     ∷ refused 4 zeros (deliverTo freshB (toOne F 0 0 (mileage 5) (mileage 5)))
@@ -265,6 +266,9 @@ cases =
     ∷ refused 4 zeros (deliverTo freshB (toOne S 0 0 (mileage 5) blank))
     ∷ refused 4 zeros (deliverTo freshB (toOne K 255 4 blank blank))
     ∷ refused 4 zeros (deliverTo freshB (toOne K 0 4 (mileage 6) (mileage 6)))
+    ∷ refused 4 zeros (deliverTo freshB (inB F 1 0 (mileage 5) (mileage 6)))
+    ∷ refused 4 zeros (deliverTo freshB (inB C 1 0 (mileage 5) (mileage 6)))
+    ∷ refused 4 zeros (deliverTo sixR (inR C 1 (mileage 5) (mileage 5)))
     -- 5: K for unit 1, handed to 2
     ∷ refused 5 zeros (deliverTo (log B 3 2 0 blank blank blank) (message K B 3 0 1 4 blank blank))
     -- 7: n = 3, B, round 9,999, one SECOND there, another comes; the SECOND of the marked sender again is accepted
@@ -287,7 +291,7 @@ cases =
     ∷ case (deliverTo freshB (inB C 2 0 (mileage 9) (mileage 9))) 0 freshB
     (image freshB (tally 4 (blank ++ (blank ++ mileage 9))) (tally 0 [])) zeros none
     ∷ gives (third 5 5 5) sixR (unitR 1 (mileage 5) blank) zeros 5
-    -- then unit 3, which gathered units 1, 2 and 3, takes 5 from 5, 5 and 9; as (n + 1) / 2 of them are wanted it would be blank, and 5 be lost
+    -- then unit 3, which gathered units 1, 2 and 3, takes 5 from 5, 5 and 9; if (n + 1) / 2 of them were wanted it would be blank, and 5 be lost
     ∷ gives (deliver (unit3R 0 6) (image (unit3R 0 6) (tally 0 []) (tally 6 (blank ++ (mileage 5 ++ mileage 5)))) (inR S 3 (mileage 9) blank) (junk 18))
     (unit3R 0 6) (unit3R 1 5) zeros none
     -- B, n = 5: SECONDs split of unit 0 and 9 of unit 2, then 5 of unit 1: the lowest sender's mileage is 5
@@ -302,7 +306,7 @@ each-same (c ∷ cs) e = (ap (λ (l : List Outcome). getD l 0 (c .expected)) e, 
 
 pub all-hold : Each (λ c. outcome (c .question) ≡ c .expected) cases
 unfolding ones holders allHold common firstPassing lowest leads majority noMarks mark gatheredFrom gathered
-    mileageOrBlank mileageOrSplit secondFits sameMileage stateOk logOk every placeOk placesOk tallyOk checksAllowed imageOk sameSettings stateFits fits
+    mileageOrBlank mileageOrSplit secondEstimateOk sameMileage stateOk logOk every cellOk cellsOk tallyOk checksAllowed imageOk sameSettings stateFits fits
     firstOk checkOk secondOk skipOk kindOk messageOk numAt bytesOf readLog readMessage cleared readImage imageBytes firstOf atLog downUnit says logWrite
     atRound fresh recovered sendFirst proposed takeFirst onFirst isFull takeSecond countCheck checksWith onCheck nextProposal close countSecond
     secondsWith onSecond onKind skip caughtUp received forOther outOfRange closesLast unitLengths badLog badSettings badImage badMessage logBytes

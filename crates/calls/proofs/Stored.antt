@@ -21,11 +21,11 @@ use Rattle.contents.specs.declared.Message.{Message}
 use Rattle.contents.specs.declared.Settings.{Settings}
 use Rattle.contents.proofs.Facts.{image-facts, log-facts}
 use Rattle.formats.specs.Codes.{codeOf}
-use Rattle.formats.specs.Formats.{stored}
 use Rattle.formats.specs.Images.{imageBytes, withTallies}
 use Rattle.formats.specs.InnerImages.{asMarked, stateOver, imageOver, inImage}
 use Rattle.formats.specs.Logs.{logFormat}
 use Rattle.formats.specs.Messages.{messageFormat, emptyBytes}
+use Rattle.formats.specs.InnerFormats.{stored}
 use Rattle.formats.proofs.Marked.{as-marked, same-marked}
 use Rattle.formats.proofs.Places.{length-image, state-written, image-over}
 use Rattle.formats.proofs.Steps.{stored-contents}

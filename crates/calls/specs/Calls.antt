@@ -17,14 +17,14 @@ use Rattle.contents.specs.declared.Log.{Log}
 use Rattle.contents.specs.declared.Message.{Message}
 use Rattle.contents.specs.declared.Settings.{Settings}
 use Rattle.formats.specs.Codes.{engineOf, codeOf}
-use Rattle.formats.specs.Formats.{ReadAnswer, toBytes, stored}
+use Rattle.formats.specs.Formats.{ReadAnswer, toBytes}
 use Rattle.formats.specs.Images.{readImage, imageBytes}
 use Rattle.formats.specs.Logs.{logFormat, readLog}
 use Rattle.formats.specs.Messages.{messageFormat, readMessage, emptyBytes, cleared}
 use Rattle.formats.specs.declared.EngineRead.{EngineRead}
 use Rattle.formats.specs.declared.EngineRead.the-variants.{Is, Unknown}
 use Rattle.consensus.specs.Methods.{forOther, outOfRange, closesLast}
-use Rattle.consensus.specs.Conditions.{Condition, condition, firstOf, Lowest}
+use Rattle.consensus.specs.Conditions.{Condition, condition, firstOf, LowestNumber}
 use Rattle.consensus.specs.Step.{fresh, recovered, proposed, received}
 use Rattle.consensus.specs.Units.{unitLog, unitImage, upUnit, downUnit}
 use Rattle.consensus.specs.declared.Answer.{Answer}
@@ -171,5 +171,5 @@ deliverCall l log image message out =
 -- the number is 0 exactly where no condition holds, and else the lowest of one that does; after a refusal log and image keep their
 -- bytes, an output buffer of a message's length is zeros, one of another length keeps its bytes, and the decision is blank
 pub record Refusing (l : Limits) (conditions : List Condition) (log image out : List ℕ) (c : CallAnswer) : Type 0 where
-  pub number : Lowest conditions (c .number)
+  pub number : LowestNumber conditions (c .number)
   pub refused : (c .number ≡ 0 → ⊥) → c ≡ called (c .number) log image (cleared l out) blankCode

@@ -1,5 +1,5 @@
--- Logs and messages between plain numbers and bytes: what the four calls answer. Assumes nothing.
-use Prim.Native.Nat.{ℕ, _-_}
+-- Logs and messages between plain numbers and bytes: what the four calls of fields answer. Assumes nothing.
+use Prim.Native.Nat.{ℕ}
 use mathlib.Core.Bool.{cond, _&&_}
 use mathlib.Core.List.{List}
 use mathlib.Core.Path.{_≡_}
@@ -17,9 +17,9 @@ use Rattle.formats.specs.Numbers.{Bytes}
 abbrev pub putNumbers : {A : Type 0} → Format A → ReadAnswer A → List ℕ → WriteAnswer
 putNumbers f r fs = cond (eqb (r .number) 0) (wrote 0 (f .numbers (r .contents))) (wrote (r .number) fs)
 
--- the bytes of what was read, or what is kept
+-- the bytes of what was read, or what is left after a refusal
 abbrev pub putChecked : {A : Type 0} → Format A → ReadAnswer A → List ℕ → WriteAnswer
-putChecked f r kept = cond (eqb (r .number) 0) (wrote 0 (toBytes f (r .contents))) (wrote (r .number) kept)
+putChecked f r left = cond (eqb (r .number) 0) (wrote 0 (toBytes f (r .contents))) (wrote (r .number) left)
 
 -- reading bytes into fields: 1 where a length is wrong
 abbrev pub readCall : {A : Type 0} → Format A → List ℕ → List ℕ → WriteAnswer
@@ -27,8 +27,8 @@ readCall f bs fs = cond (eqb (length fs) (f .fields)) (putNumbers f (readBytes f
 
 -- writing fields as bytes: 1 where a length is wrong
 abbrev pub writeCall : {A : Type 0} → Format A → List ℕ → List ℕ → List ℕ → WriteAnswer
-writeCall f fs kept bs =
-    cond (eqb (length fs) (f .fields) && eqb (length bs) (f .size)) (putChecked f (fromNumbers f fs) kept) (wrote (numberOf Length) kept)
+writeCall f fs left bs =
+    cond (eqb (length fs) (f .fields) && eqb (length bs) (f .size)) (putChecked f (fromNumbers f fs) left) (wrote (numberOf Length) left)
 
 unfoldable pub readLogCall : Limits → List ℕ → List ℕ → WriteAnswer
 readLogCall l bs fs = readCall (logFormat l) bs fs

@@ -1,6 +1,6 @@
 -- What inner functions of unit_calls promise, and no public contract says. Assumes nothing.
 use Prim.Native.Nat.{ℕ, _^_}
-use mathlib.Core.Bool.{Bool, not, cond, _&&_}
+use mathlib.Core.Bool.{Bool, cond, _&&_}
 use mathlib.Core.List.{List, []}
 use lib.Dec.{eqb, ltb}
 use Rattle.tally.specs.Limits.{today, blankCode}
@@ -8,10 +8,10 @@ use Rattle.tally.specs.Refusal.{numberOf}
 use Rattle.contents.specs.Messages.{isEmpty}
 use Rattle.contents.specs.declared.Message.{Message}
 use Rattle.formats.specs.Codes.{codeOf}
-use Rattle.formats.specs.Formats.{stored}
 use Rattle.formats.specs.InnerImages.{stateOver, imageOver, inImage}
 use Rattle.formats.specs.Logs.{logFormat}
-use Rattle.formats.specs.Messages.{messageFormat, cleared}
+use Rattle.formats.specs.Messages.{messageFormat}
+use Rattle.formats.specs.InnerFormats.{stored}
 use Rattle.consensus.specs.Units.{unitLog}
 use Rattle.consensus.specs.declared.Answer.{Answer}
 use Rattle.calls.specs.Calls.{CallAnswer, called}

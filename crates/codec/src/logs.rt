@@ -16,12 +16,12 @@ ghost use Prim.Native.Nat.{_+_, _≤_};
 ghost use lib.ListN.{length};
 ghost use Rattle.tally.specs.Limits.{today, logSize};
 ghost use Rattle.tally.specs.Refusal.{numberOf};
-ghost use Rattle.formats.specs.Numbers.{total};
-ghost use Rattle.formats.specs.InnerNumbers.{packInto};
+ghost use Rattle.formats.specs.InnerNumbers.{packInto, total};
 ghost use Rattle.formats.specs.Codes.{codeOf};
-ghost use Rattle.formats.specs.Formats.{withZero, wrote, checked, stored};
+ghost use Rattle.formats.specs.Formats.{withZero, wrote, checked};
 ghost use Rattle.formats.specs.InnerLogs.{settingsWidths, stateWidths, stateNumbers, roundAt, logNumbersIn, engineAt};
 ghost use Rattle.formats.specs.Logs.{logWidths, logZero, logOf, logNumbers, logFormat, logReading, readLog, writeLog};
+ghost use Rattle.formats.specs.InnerFormats.{stored};
 
 // Where the fields stand, after the engine letter.
 const AT_N: usize = 1;
@@ -64,7 +64,7 @@ pub fn log_at(engine: Engine, s: &[u8]) -> Log
             entry: big_endian::be16(s, AT_ENTRY),
         },
         state: State {
-            round: big_endian::round_at(s, AT_ROUND),
+            round: big_endian::be_round(s, AT_ROUND),
             proposal: codes::estimate_of(big_endian::be32(s, AT_PROPOSAL)),
             first: codes::estimate_of(big_endian::be32(s, AT_FIRST)),
             second: codes::estimate_of(big_endian::be32(s, AT_SECOND)),
@@ -110,7 +110,7 @@ pub fn round_at(s: &[u8]) -> Round
     requires { ⌜ logSize today ≤ length (now s) ⌝ }
     ensures { λ r. ⌜ r ≡ roundAt (now (s .entry)) ⌝ }
 {
-    big_endian::round_at(s, AT_ROUND)
+    big_endian::be_round(s, AT_ROUND)
 }
 
 // The state of a log or an image.

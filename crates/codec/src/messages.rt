@@ -13,10 +13,11 @@ ghost use lib.ListN.{length};
 ghost use Rattle.tally.specs.Limits.{today, messageSize};
 ghost use Rattle.tally.specs.Refusal.{numberOf};
 ghost use Rattle.formats.specs.InnerNumbers.{packInto};
-ghost use Rattle.formats.specs.Formats.{withZero, wrote, checked, stored};
+ghost use Rattle.formats.specs.Formats.{withZero, wrote, checked};
 ghost use Rattle.formats.specs.Messages.{messageWidths, messageZero, messageOf, messageNumbers, messageFormat, messageReading, lettersRead, cleared};
 ghost use Rattle.formats.specs.Messages.{readMessage, writeMessage};
 ghost use Rattle.formats.specs.InnerMessages.{messageNumbersIn};
+ghost use Rattle.formats.specs.InnerFormats.{stored};
 
 // Where the fields stand, after the letters of kind and engine.
 const AT_N: usize = 2;
@@ -47,7 +48,7 @@ fn message_at(kind: Kind, engine: Engine, s: &[u8]) -> Message
         sender: big_endian::be8(s, AT_SENDER),
         receiver: big_endian::be8(s, AT_RECEIVER),
         entry: big_endian::be16(s, AT_ENTRY),
-        round: big_endian::round_at(s, AT_ROUND),
+        round: big_endian::be_round(s, AT_ROUND),
         estimate: codes::estimate_of(big_endian::be32(s, AT_ESTIMATE)),
         proposal: codes::estimate_of(big_endian::be32(s, AT_PROPOSAL)),
     }

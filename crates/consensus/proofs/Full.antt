@@ -10,10 +10,10 @@ use lib.Dec.{eqb}
 use lib.ListN.{length}
 use borrow.Author.Tests.{eqb-true, eqb-false}
 use Rattle.tally.specs.Count.{bump, passing, count}
-use Rattle.tally.specs.Gathered.{anyMileage, holds, holders, common, lowest, majority}
+use Rattle.tally.specs.Gathered.{anyMileage, hasValue, holders, common, lowest, majority}
 use Rattle.tally.specs.Limits.{Limits, senders, maxUnits}
 use Rattle.tally.specs.Quorum.{quorumOf, majorityOf}
-use Rattle.tally.specs.Tally.{Typed, OnlyBelow, noMarks, isMarked, placed, held, mark, gathered}
+use Rattle.tally.specs.Tally.{Typed, OnlyBelow, noMarks, isMarked, estimateAt, held, mark, gathered}
 use Rattle.tally.specs.declared.Engine.{Engine}
 use Rattle.tally.specs.declared.Engine.the-variants.{R}
 use Rattle.tally.specs.declared.Estimate.{Estimate}
@@ -24,7 +24,7 @@ use Rattle.tally.proofs.Gathered.{all-counted, common-all, lowest-held, lowest-
 use Rattle.tally.proofs.Marks.{mark-other, unmarked-none}
 use Rattle.tally.proofs.Never.{never}
 use Rattle.tally.proofs.Quorums.{majority-over-half}
-use Rattle.tally.proofs.Tallies.{passing-senders, length-gathered, holders-senders, ones-units, typed-mark, placed-same, placed-other, typed-empty}
+use Rattle.tally.proofs.Tallies.{passing-senders, length-gathered, holders-senders, ones-units, typed-mark, estimate-same-at, estimate-other-at, typed-empty}
 use Rattle.contents.specs.Estimates.{isBlank, isB}
 use Rattle.contents.specs.Images.{markedOk}
 use Rattle.contents.proofs.Facts.{TallyFacts, image-facts, log-facts, only-below}
@@ -38,7 +38,7 @@ pub record Proper (n : ℕ) (t : Tally) : Type 0 where
   pub typed : Typed t
   pub low : n ≤ senders
   pub only : OnlyBelow n (t .marks)
-  pub vote : (s : ℕ) → s < senders → isMarked (t .marks) s ≡ true → isBlank (placed t s) ≡ false
+  pub vote : (s : ℕ) → s < senders → isMarked (t .marks) s ≡ true → isBlank (estimateAt t s) ≡ false
 
 -- a sender that is marked with some estimate
 abbrev pub voted : Tally → ℕ → Bool
@@ -46,9 +46,9 @@ voted t s = not (isBlank (held t s))
 
 -- with another than the mileage v
 abbrev pub others : Tally → ℕ → ℕ → Bool
-others t v s = voted t s && not (holds v (held t s))
+others t v s = voted t s && not (hasValue v (held t s))
 
-pub holds-mileage : (v : ℕ) (e : Estimate) → holds v e ≡ true → e ≡ Mileage v
+pub holds-mileage : (v : ℕ) (e : Estimate) → hasValue v e ≡ true → e ≡ Mileage v
 holds-mileage v Blank h = never h
 holds-mileage v Split h = never h
 holds-mileage v (Mileage w) h = ap Mileage (eqb-true w v h)
@@ -79,13 +79,13 @@ blank-is (Mileage v) h = never h
 
 module _ (n : ℕ) (t : Tally) (p : Proper n t) where
   -- those gathered that pass a test, counted over the units below n
-  passing-units : (P : Estimate → Bool) → passing P (gathered t) ≡ count n (λ s. isMarked (t .marks) s && P (placed t s))
+  passing-units : (P : Estimate → Bool) → passing P (gathered t) ≡ count n (λ s. isMarked (t .marks) s && P (estimateAt t s))
   passing-units P =
       passing-senders P t
-      ∙ count-below n senders (λ s. isMarked (t .marks) s && P (placed t s)) (p .low) (λ s a b. ap (λ (x : Bool). x && P (placed t s)) (p .only s a b))
+      ∙ count-below n senders (λ s. isMarked (t .marks) s && P (estimateAt t s)) (p .low) (λ s a b. ap (λ (x : Bool). x && P (estimateAt t s)) (p .only s a b))
 
   -- a unit that is marked votes with what it is marked with
-  voted-placed : (s : ℕ) → s < senders → isMarked (t .marks) s ≡ true → (held t s ≡ placed t s) × (voted t s ≡ true)
+  voted-placed : (s : ℕ) → s < senders → isMarked (t .marks) s ≡ true → (held t s ≡ estimateAt t s) × (voted t s ≡ true)
   unfolding held
   voted-placed s b h = rw h (refl, rw (p .vote s b h))
 
@@ -97,20 +97,20 @@ module _ (n : ℕ) (t : Tally) (p : Proper n t) where
       let c = count-mono n (isMarked (t .marks)) (voted t) (λ s b m. voted-placed s (omega (arith, p .low)) m .1) in
       omega (arith, marked-units)
 
-  holders-units : (v : ℕ) → holders v (gathered t) ≡ count n (λ s. holds v (held t s))
+  holders-units : (v : ℕ) → holders v (gathered t) ≡ count n (λ s. hasValue v (held t s))
   unfolding held
   holders-units v =
       holders-senders v t
-      ∙ count-below n senders (λ s. holds v (held t s)) (p .low) (λ s a b. ap (λ (x : Bool). holds v (cond x (placed t s) Blank)) (p .only s a b))
+      ∙ count-below n senders (λ s. hasValue v (held t s)) (p .low) (λ s a b. ap (λ (x : Bool). hasValue v (cond x (estimateAt t s) Blank)) (p .only s a b))
 
   -- a mileage that some of those gathered hold is some unit's
   holder : (v k : ℕ) → 1 ≤ k → k ≤ holders v (gathered t) → (s : ℕ) × ((s < n) × (held t s ≡ Mileage v))
   holder v k a b =
-      let s = some-unit n (λ s. holds v (held t s)) (omega (arith, holders-units v)) in
+      let s = some-unit n (λ s. hasValue v (held t s)) (omega (arith, holders-units v)) in
       (s .0, (s .1 .0, holds-mileage v (held t (s .0)) (s .1 .1)))
 
   -- the common mileage of a quorum is each one's
-  pub common-voted : (q v : ℕ) → common (gathered t) ≡ Mileage v → q ≤ ones (t .marks) → q ≤ count n (λ s. holds v (held t s))
+  pub common-voted : (q v : ℕ) → common (gathered t) ≡ Mileage v → q ≤ ones (t .marks) → q ≤ count n (λ s. hasValue v (held t s))
   common-voted q v e h =
       let all = eqb-true (holders v (gathered t)) (length (gathered t)) (sym (all-counted v (gathered t)) ∙ common-all (gathered t) v e) in
       omega (arith, holders-units v, length-gathered t (p .typed .marks))
@@ -121,11 +121,11 @@ module _ (n : ℕ) (t : Tally) (p : Proper n t) where
   pub majority-voted : (k v : ℕ) → 1 ≤ k → majority k (gathered t) ≡ Mileage v → (s : ℕ) × ((s < n) × (held t s ≡ Mileage v))
   majority-voted k v a e = holder v k a (majority-held k (gathered t) v e)
 
-  marked-held : (s v : ℕ) → held t s ≡ Mileage v → (isMarked (t .marks) s && anyMileage (placed t s)) ≡ true
+  marked-held : (s v : ℕ) → held t s ≡ Mileage v → (isMarked (t .marks) s && anyMileage (estimateAt t s)) ≡ true
   unfolding held
   marked-held s v e = go (isMarked (t .marks) s) e
     where
-      go : (b : Bool) → cond b (placed t s) Blank ≡ Mileage v → (b && anyMileage (placed t s)) ≡ true
+      go : (b : Bool) → cond b (estimateAt t s) Blank ≡ Mileage v → (b && anyMileage (estimateAt t s)) ≡ true
       go true h = rw h refl
       go false h = never cc
 
@@ -133,7 +133,7 @@ module _ (n : ℕ) (t : Tally) (p : Proper n t) where
   pub lowest-blank : isBlank (lowest (gathered t)) ≡ true → (s : ℕ) → s < n → (v : ℕ) → held t s ≡ Mileage v → ⊥
   lowest-blank h s b v e =
       let none = lowest-none (gathered t) (blank-is (lowest (gathered t)) h) in
-      let one = count-has n (λ s. isMarked (t .marks) s && anyMileage (placed t s)) s b (marked-held s v e) in
+      let one = count-has n (λ s. isMarked (t .marks) s && anyMileage (estimateAt t s)) s b (marked-held s v e) in
       omega (arith, passing-units anyMileage)
 
   -- R: unless v is the next proposal, those gathered that are not v stop a quorum of v
@@ -145,16 +145,16 @@ module _ (n : ℕ) (t : Tally) (p : Proper n t) where
       many : length (gathered t) ≡ quorumOf R n
       many = length-gathered t (p .typed .marks) ∙ full
 
-      weaker : (s : ℕ) → s < n → (isMarked (t .marks) s && not (holds v (placed t s))) ≡ true → others t v s ≡ true
+      weaker : (s : ℕ) → s < n → (isMarked (t .marks) s && not (hasValue v (estimateAt t s))) ≡ true → others t v s ≡ true
       weaker s b h =
-          let m = both-true (isMarked (t .marks) s) (not (holds v (placed t s))) h in
+          let m = both-true (isMarked (t .marks) s) (not (hasValue v (estimateAt t s))) h in
           let here = voted-placed s (omega (arith, p .low)) (m .0) in
           rw (here .1) (rw (here .0) (m .1))
 
       go : Dec (holders v (gathered t) < majorityOf n) → n < count n (others t v) + quorumOf R n
       go (yes few) =
-          let c = count-mono n (λ s. isMarked (t .marks) s && not (holds v (placed t s))) (others t v) weaker in
-          omega (arith, others-block n v (gathered t) many few, passing-units (λ e. not (holds v e)))
+          let c = count-mono n (λ s. isMarked (t .marks) s && not (hasValue v (estimateAt t s))) (others t v) weaker in
+          omega (arith, others-block n v (gathered t) many few, passing-units (λ e. not (hasValue v e)))
       go (no lot) = absurd (not-v (majority-found (majorityOf n) (gathered t) v (omega (arith, many, majority-over-half n)) (omega arith)))
 
   pub next-r-voted : (own : Estimate) (v : ℕ) → nextProposal R n t own ≡ Mileage v → (s : ℕ) × ((s < n) × (held t s ≡ Mileage v))
@@ -172,11 +172,11 @@ module _ (n : ℕ) (t : Tally) (p : Proper n t) where
         vote = λ u c h. go u c h (eqb u s) refl;
       }
     where
-      go : (u : ℕ) → u < senders → isMarked (mark t s e .marks) u ≡ true → (x : Bool) → eqb u s ≡ x → isBlank (placed (mark t s e) u) ≡ false
-      go u c h true q = rw (eqb-true u s q) (ap isBlank (placed-same t s e (omega (arith, p .typed .cells, p .low))) ∙ nonblank)
+      go : (u : ℕ) → u < senders → isMarked (mark t s e .marks) u ≡ true → (x : Bool) → eqb u s ≡ x → isBlank (estimateAt (mark t s e) u) ≡ false
+      go u c h true q = rw (eqb-true u s q) (ap isBlank (estimate-same-at t s e (omega (arith, p .typed .cells, p .low))) ∙ nonblank)
       go u c h false q =
           let other = eqb-false u s q in
-          ap isBlank (placed-other t s u e other) ∙ p .vote u c (sym (mark-other (t .marks) s u other) ∙ h)
+          ap isBlank (estimate-other-at t s u e other) ∙ p .vote u c (sym (mark-other (t .marks) s u other) ∙ h)
 
 -- no marks
 pub proper-none : (n : ℕ) → n ≤ senders → Proper n noMarks
@@ -194,7 +194,7 @@ lowest-not-split es =
 -- the tallies of a well-formed unit are proper
 proper-tally : (l : Limits) (split : Bool) (g : Engine) (n : ℕ) (t : Tally) → n ≤ maxUnits → Typed t → TallyFacts l split g n t → Proper n t
 proper-tally l split g n t low typed f =
-    record { typed = typed; low = low; only = only-below l split g n t f; vote = λ s b h. go (placed t s) (rw h at (f .places s b .vote)) }
+    record { typed = typed; low = low; only = only-below l split g n t f; vote = λ s b h. go (estimateAt t s) (rw h at (f .places s b .vote)) }
   where
     go : (e : Estimate) → markedOk l split true e ≡ true → isBlank e ≡ false
     go Blank h = by split h

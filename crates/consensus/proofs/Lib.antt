@@ -5,7 +5,7 @@ pub mod Stays
 pub mod Answers
 pub mod Full
 pub mod Parts
-pub mod Votes
+pub mod Found
 pub mod Addressee
 pub mod Soundness
 pub mod Refusals

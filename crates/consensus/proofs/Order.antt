@@ -7,7 +7,7 @@ use mathlib.Core.Logic.{inl, inr}
 use native.Mathlib.Omega.{arith}
 use Rattle.tally.specs.Refusal.{numberOf}
 use Rattle.tally.proofs.Never.{never}
-use Rattle.consensus.specs.Conditions.{Condition, conditionNumber, firstOf, NumberHolds, Lowest}
+use Rattle.consensus.specs.Conditions.{Condition, conditionNumber, firstOf, NumberHolds, LowestNumber}
 
 -- the numbers rise, from above k on
 abbrev pub Rising : ℕ → List Condition → Type 0
@@ -33,9 +33,9 @@ module _ (P : List Condition → ℕ → Type 0) (empty : P [] 0)
       go true h ih = here r rs h
       go false h ih = later r rs h ih
 
-pub first-lowest : (cs : List Condition) → Rising 0 cs → Lowest cs (numberOf (firstOf cs))
+pub first-lowest : (cs : List Condition) → Rising 0 cs → LowestNumber cs (numberOf (firstOf cs))
 first-lowest cs up =
-    up-to-first (λ cs k. (j : ℕ) → Rising j cs → Lowest cs k)
+    up-to-first (λ cs k. (j : ℕ) → Rising j cs → LowestNumber cs k)
     (λ j up. record { accepted = λ e. tt; none = λ n. refl; refused = λ n. absurd (n refl); lowest = λ i h. absurd h })
     (λ r rs h j up.
     record {

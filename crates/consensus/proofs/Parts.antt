@@ -9,20 +9,20 @@ use lib.Dec.{eqb}
 use lib.ListN.{replicate, getD-replicate}
 use borrow.Author.Tests.{eqb-true, eqb-false, eq-eqb, le-leb, lt-ltb}
 use Rattle.tally.specs.Limits.{Limits, senders}
-use Rattle.tally.specs.Tally.{Typed, isMarked, placed, blankCell, noMarks, mark}
+use Rattle.tally.specs.Tally.{Typed, isMarked, estimateAt, blankCell, noMarks, mark}
 use Rattle.tally.specs.declared.Engine.{Engine}
 use Rattle.tally.specs.declared.Estimate.{Estimate}
 use Rattle.tally.specs.declared.Tally.{Tally}
 use Rattle.tally.proofs.Marks.{mark-same, mark-other, unmarked-none}
 use Rattle.tally.proofs.Quorums.{quorum-fits}
-use Rattle.tally.proofs.Tallies.{typed-empty, placed-same, placed-other}
-use Rattle.contents.specs.Estimates.{isB, isBlank, isSplit, isMileage, mileageOrBlank, secondFits}
-use Rattle.contents.specs.Images.{every, placeOk, placesOk, tallyOk, checksAllowed, imageOk, sameSettings, stateFits, fits}
+use Rattle.tally.proofs.Tallies.{typed-empty, estimate-same-at, estimate-other-at}
+use Rattle.contents.specs.Estimates.{isB, isBlank, isSplit, isMileage, mileageOrBlank, secondEstimateOk}
+use Rattle.contents.specs.Images.{every, cellOk, cellsOk, tallyOk, checksAllowed, imageOk, sameSettings, stateFits, fits}
 use Rattle.contents.specs.Logs.{settingsOk, stateOk, logOk}
 use Rattle.contents.specs.declared.Log.{Log}
 use Rattle.contents.specs.declared.Settings.{Settings}
 use Rattle.contents.specs.declared.State.{State}
-use Rattle.contents.proofs.Facts.{numbers-facts, StateFacts, state-facts, PlaceFacts, TallyFacts, image-facts}
+use Rattle.contents.proofs.Facts.{numbers-facts, StateFacts, state-facts, CellFacts, TallyFacts, image-facts}
 use Rattle.contents.proofs.Same.{estimate-same, settings-same, Fits, state-fits}
 use Rattle.contents.proofs.Tests.{both-true}
 use Rattle.consensus.specs.Step.{atRound, clean}
@@ -48,10 +48,10 @@ unfolding stateOk
 state-ok l g s f = and-both (and-both (and-both (le-leb _ _ (f .round)) (f .proposal)) (f .first)) (f .second)
 
 tally-ok : (l : Limits) (split : Bool) (g : Engine) (n : ℕ) (t : Tally) → TallyFacts l split g n t → tallyOk l split g n t ≡ true
-unfolding tallyOk placesOk placeOk
+unfolding tallyOk cellsOk cellOk
 tally-ok l split g n t f =
     and-both
-    (every-intro senders (λ s. placeOk l split n s (isMarked (t .marks) s) (placed t s))
+    (every-intro senders (λ s. cellOk l split n s (isMarked (t .marks) s) (estimateAt t s))
     (λ s b. let p = f .places s b in and-both (and-both (p .below) (p .unmarked)) (p .vote)))
     (lt-ltb _ _ (f .few))
 
@@ -76,7 +76,7 @@ Takes l split e = (isMileage l e || (split && isSplit e)) ≡ true
 
 -- the rules of every place
 abbrev pub Places : Limits → Bool → ℕ → Tally → Type 0
-Places l split n t = (s : ℕ) → s < senders → PlaceFacts l split n s (isMarked (t .marks) s) (placed t s)
+Places l split n t = (s : ℕ) → s < senders → CellFacts l split n s (isMarked (t .marks) s) (estimateAt t s)
 
 module _ (l : Limits) (split : Bool) (n : ℕ) where
   pub places-mark : (t : Tally) (s : ℕ) (e : Estimate) → Typed t → Places l split n t → s < n → s < senders → Takes l split e
@@ -84,14 +84,14 @@ module _ (l : Limits) (split : Bool) (n : ℕ) where
   unfolding mark
   places-mark t s e typed f below inside vote x b = at x b (eqb x s) refl
     where
-      at : (x : ℕ) → x < senders → (b : Bool) → eqb x s ≡ b → PlaceFacts l split n x (isMarked (mark t s e .marks) x) (placed (mark t s e) x)
+      at : (x : ℕ) → x < senders → (b : Bool) → eqb x s ≡ b → CellFacts l split n x (isMarked (mark t s e .marks) x) (estimateAt (mark t s e) x)
       at x b true q =
           let same : x ≡ s = eqb-true x s q in
-          rw (same, mark-same (t .marks) s, placed-same t s e (omega (arith, typed .cells)))
+          rw (same, mark-same (t .marks) s, estimate-same-at t s e (omega (arith, typed .cells)))
           (record { below = lt-ltb s n below; unmarked = refl; vote = vote })
       at x b false q =
           let apart = eqb-false x s q in
-          rw (mark-other (t .marks) s x apart, placed-other t s x e apart) (f x b)
+          rw (mark-other (t .marks) s x apart, estimate-other-at t s x e apart) (f x b)
 
 -- with what the types say
 pub record WholeTally (l : Limits) (split : Bool) (s : Settings) (t : Tally) : Type 0 where
@@ -104,7 +104,7 @@ tallied-none l split s ok =
     let low = numbers-facts (s .n) (s .unit) (s .entry) ok .n-low in
     record { facts = record { places = at; few = omega (arith, quorum-fits (s .engine) (s .n) low) }; typed = typed-empty }
   where
-    at : (x : ℕ) → x < senders → PlaceFacts l split (s .n) x (isMarked 0 x) (placed (record { marks = 0; cells = replicate senders blankCell }) x)
+    at : (x : ℕ) → x < senders → CellFacts l split (s .n) x (isMarked 0 x) (estimateAt (record { marks = 0; cells = replicate senders blankCell }) x)
     at x b = rw (unmarked-none x, getD-replicate senders x blankCell blankCell b) (record { below = refl; unmarked = refl; vote = refl })
 
 pub no-checks : (g : Engine) (e : Estimate) → checksAllowed g e (noMarks .marks) ≡ true
@@ -179,7 +179,7 @@ module _ (l : Limits) (p : Power) (s : Settings) (ok : settingsOk s ≡ true) wh
 -- at a round above the unit's own
 pub parts-at-round : (l : Limits) (u : U.Unit) → Parts l u → (r : ℕ) (p : Estimate) → u .current .round < r → r ≤ l .lastRound
     → mileageOrBlank l p ≡ true → Parts l (atRound u r p)
-unfolding atRound stateFits mileageOrBlank secondFits
+unfolding atRound stateFits mileageOrBlank secondEstimateOk
 parts-at-round l u w r p above last ok =
     let less : u .logged .round < r = omega (arith, round-fits (u .current) (u .logged) (w .states .fit)) in
     parts-unmarked l (u .power) (u .settings) (w .settings) (u .logged) (clean r p)

@@ -24,10 +24,10 @@ use Rattle.tally.proofs.Marks.{mark-adds, unmarked-none}
 use Rattle.tally.proofs.Never.{never}
 use Rattle.tally.proofs.Quorums.{quorum-fits}
 use Rattle.tally.proofs.Tallies.{typed-mark}
-use Rattle.contents.specs.Estimates.{isB, isBlank, isMileage, inRange, mileageOrBlank, mileageOrSplit, secondFits, sameMileage}
+use Rattle.contents.specs.Estimates.{isB, isBlank, isMileage, inRange, mileageOrBlank, mileageOrSplit, secondEstimateOk, sameMileage}
 use Rattle.contents.specs.Images.{checksAllowed, stateFits}
 use Rattle.contents.specs.Logs.{settingsOk, logOk, stateOk}
-use Rattle.contents.specs.Messages.{firstOk, checkOk, secondOk, skipOk, kindOk, messageOk}
+use Rattle.contents.specs.Messages.{firstOk, checkOk, secondOk, skipOk, kindOk, messageOk, emptyMessage}
 use Rattle.contents.specs.declared.Kind.{Kind}
 use Rattle.contents.specs.declared.Kind.the-variants.{First, Check, Second, Skip}
 use Rattle.contents.specs.declared.Message.{Message}
@@ -40,7 +40,7 @@ use Rattle.consensus.specs.Methods.{forOther, outOfRange, isSecond, clos
 use Rattle.consensus.specs.Methods.{keyOff, keyOn}
 use Rattle.consensus.specs.Conditions.{condition, NoneHolds}
 use Rattle.consensus.specs.Sound.{From, Sound}
-use Rattle.consensus.specs.Step.{quiet, sends, says, emptyMessage, withCurrent, withProposal, withFirst, withSecond, withChecks, withSeconds, logWrite}
+use Rattle.consensus.specs.Step.{quiet, sends, says, withCurrent, withProposal, withFirst, withSecond, withChecks, withSeconds, logWrite}
 use Rattle.consensus.specs.Step.{atRound, clean, fresh, recovered, orIfBlank, sendFirst, proposed, voteKind, voteProposal, takeFirst, isFull, takeSecond}
 use Rattle.consensus.specs.Step.{checksWith, secondsWith, close, onKind, skip, received}
 use Rattle.consensus.specs.Units.{WellFormed, unitLog, downUnit, atLog}
@@ -51,7 +51,7 @@ use Rattle.consensus.proofs.Addressee.{passes-mine}
 use Rattle.consensus.proofs.Branches.{by-kind, by-check, by-second, by-round, by-conditions}
 use Rattle.consensus.proofs.Parts.{Parts, parts, well, and-both, or-first, states-same, Takes, Places, places-mark, WholeTally, tallied-none, no-checks}
 use Rattle.consensus.proofs.Parts.{parts-at-round, parts-at-log, well-at-log}
-use Rattle.consensus.proofs.Votes.{votes, common-vote, next-proposal, decided-blank}
+use Rattle.consensus.proofs.Found.{votes, common-vote, next-proposal, decided-blank}
 
 -- ---- answers that are sound: v is what becomes of u
 
@@ -98,14 +98,14 @@ module _ (l : Limits) where
 
 -- ---- what delivering to u is given
 
-record Given (l : Limits) (s : Settings) (m : Message) : Type 0 where
+record ForThisUnit (l : Limits) (s : Settings) (m : Message) : Type 0 where
   engine : s .engine ≡ m .engine
   below : m .sender < s .n
   inside : m .sender < senders
   round : m .round ≤ l .lastRound
   kind : (k : Kind) → m .kind ≡ k → kindOk l k m ≡ true
 
-given : (l : Limits) (s : Settings) (m : Message) → messageOk l m ≡ true → forOther s m ≡ false → Given l s m
+given : (l : Limits) (s : Settings) (m : Message) → messageOk l m ≡ true → forOther s m ≡ false → ForThisUnit l s m
 given l s m ok for =
     let f = message-facts l m ok in
     let a = passes-mine s m for in
@@ -119,7 +119,7 @@ given l s m ok for =
 
 -- ---- the step by kind, of a unit v that u is or has become
 
-module _ (l : Limits) (u v : U.Unit) (m : Message) (same : v .settings ≡ u .settings) (p : Parts l v) (i : Given l (v .settings) m) where
+module _ (l : Limits) (u v : U.Unit) (m : Message) (same : v .settings ≡ u .settings) (p : Parts l v) (i : ForThisUnit l (v .settings) m) where
   first-sound : m .kind ≡ First → Sound l u (takeFirst v (m .proposal))
   unfolding takeFirst logWrite kindOk
   first-sound k =
@@ -168,7 +168,7 @@ module _ (l : Limits) (u v : U.Unit) (m : Message) (same : v .settings ≡ u .se
         })
 
     check-full-sound : Sound l u (takeSecond v (common (gathered (checksWith v m))))
-    unfolding takeSecond logWrite checksWith secondFits mileageOrSplit
+    unfolding takeSecond logWrite checksWith secondEstimateOk mileageOrSplit
     check-full-sound =
         sound-sends l u (withChecks (logWrite v (withSecond (v .current) e)) noMarks) same
         (record { settings = p .settings; states = states-same l _ _ state; checks = none; seconds = p .seconds; unchecked = no-checks _ _ })
@@ -335,11 +335,11 @@ sound-deliver l u m w = by-conditions (Sound l u) (deliverConditions l u m) u _ 
         (parts-at-round l u p (m .round) (m .proposal) above (i .round) (kind-proposal l (m .kind) m (i .kind (m .kind) refl)))
         i (λ _ _ full. absurd (not-full l u m p (m .round) (m .proposal) full)))
       where
-        i : Given l (u .settings) m
+        i : ForThisUnit l (u .settings) m
         i = given l (u .settings) m (not-false _ (n .0)) (n .1 .1 .0)
 
 pub well-fresh : (l : Limits) (s : Settings) → settingsOk s ≡ true → WellFormed l (fresh s)
-unfolding fresh logOk stateOk mileageOrBlank secondFits
+unfolding fresh logOk stateOk mileageOrBlank secondEstimateOk
 well-fresh l s h =
     well-at-log l _ (record { settings = s; state = clean 0 Blank })
     (and-both h (and-both (and-both (and-both (le-leb 0 (l .lastRound) (omega arith)) refl) refl) refl))

@@ -34,7 +34,7 @@ NumberHolds k [] = ⊥
 NumberHolds k (r ∷ rs) = ((conditionNumber r ≡ k) × (r .holds ≡ true)) ⊎ NumberHolds k rs
 
 -- the number k is 0 exactly where no condition holds, and else the lowest number of a condition that does
-pub record Lowest (conditions : List Condition) (k : ℕ) : Type 0 where
+pub record LowestNumber (conditions : List Condition) (k : ℕ) : Type 0 where
   pub accepted : k ≡ 0 → NoneHolds conditions
   pub none : NoneHolds conditions → k ≡ 0
   pub refused : (k ≡ 0 → ⊥) → NumberHolds k conditions

@@ -9,13 +9,13 @@ use Rattle.tally.specs.Tally.{isMarked}
 use Rattle.tally.specs.declared.Estimate.the-variants.{Blank}
 use Rattle.tally.specs.declared.Refusal.{Refusal}
 use Rattle.contents.specs.Estimates.{inRange, sameEngine}
-use Rattle.contents.specs.Messages.{messageOk}
+use Rattle.contents.specs.Messages.{messageOk, emptyMessage}
 use Rattle.contents.specs.declared.Kind.{Kind}
 use Rattle.contents.specs.declared.Kind.the-variants.{Empty, First, Check, Second, Skip}
 use Rattle.contents.specs.declared.Message.{Message}
 use Rattle.contents.specs.declared.Settings.{Settings}
 use Rattle.consensus.specs.Conditions.{Condition, condition, firstOf}
-use Rattle.consensus.specs.Step.{emptyMessage, quiet, isFull, secondsWith, proposed, received, recovered}
+use Rattle.consensus.specs.Step.{quiet, isFull, secondsWith, proposed, received, recovered}
 use Rattle.consensus.specs.Units.{unitLog, downUnit}
 use Rattle.consensus.specs.declared.Answer.{Answer}
 use Rattle.consensus.specs.declared.Power.{Power}

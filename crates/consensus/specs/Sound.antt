@@ -4,10 +4,9 @@ use mathlib.Core.Bool.{true}
 use mathlib.Core.Logic.{_⊎_}
 use Rattle.tally.specs.Limits.{Limits}
 use Rattle.contents.specs.Estimates.{mileageOrBlank}
-use Rattle.contents.specs.Messages.{messageOk}
+use Rattle.contents.specs.Messages.{messageOk, emptyMessage}
 use Rattle.contents.specs.declared.Message.{Message}
 use Rattle.contents.specs.declared.Settings.{Settings}
-use Rattle.consensus.specs.Step.{emptyMessage}
 use Rattle.consensus.specs.Units.{WellFormed}
 use Rattle.consensus.specs.declared.Answer.{Answer}
 use Rattle.consensus.specs.declared.Unit as U

@@ -15,6 +15,7 @@ use Rattle.tally.specs.declared.Estimate.the-variants.{Blank, Split, Mileage}
 use Rattle.tally.specs.declared.Refusal.{Refusal}
 use Rattle.tally.specs.declared.Tally.{Tally}
 use Rattle.contents.specs.Estimates.{isBlank}
+use Rattle.contents.specs.Messages.{emptyMessage}
 use Rattle.contents.specs.declared.Kind.{Kind}
 use Rattle.contents.specs.declared.Kind.the-variants.{Empty, First, Check, Second, Skip}
 use Rattle.contents.specs.declared.Message.{Message}
@@ -27,15 +28,11 @@ use Rattle.consensus.specs.declared.Unit as U
 
 -- ---- answers
 
--- an empty message is what a step that sends nothing gives
-abbrev pub emptyMessage : Message
-emptyMessage = record { kind = Empty; engine = B; n = 0; sender = 0; receiver = 0; entry = 0; round = 0; estimate = Blank; proposal = Blank }
-
 -- an accepted answer
 abbrev pub gives : U.Unit → Message → Estimate → Answer
 gives u m d = record { refusal = Refusal.None; unit = u; message = m; decision = d }
 
--- nothing is sent, nothing decided
+-- nothing is sent, nothing decided: an empty message is what a step that sends nothing gives
 abbrev pub quiet : U.Unit → Answer
 quiet u = gives u emptyMessage Blank
 

@@ -8,14 +8,14 @@ use lib.Dec.{eqb, leb, ltb}
 use borrow.Author.Tests.{leb-true, ltb-true, eqb-true, le-leb, lt-ltb, le-ltb}
 use Rattle.tally.specs.Limits.{Limits, minUnits, maxUnits, minEntry, maxEntry, everyone, senders}
 use Rattle.tally.specs.Quorum.{quorumOf}
-use Rattle.tally.specs.Tally.{isMarked, placed, OnlyBelow}
+use Rattle.tally.specs.Tally.{isMarked, estimateAt, OnlyBelow}
 use Rattle.tally.specs.declared.Engine.{Engine}
 use Rattle.tally.specs.declared.Engine.the-variants.{B, R}
 use Rattle.tally.specs.declared.Estimate.{Estimate}
 use Rattle.tally.specs.declared.Estimate.the-variants.{Blank, Split, Mileage}
 use Rattle.tally.specs.declared.Tally.{Tally}
-use Rattle.contents.specs.Estimates.{isB, isBlank, isSplit, isMileage, inRange, mileageOrBlank, mileageOrSplit, secondFits, sameEstimate, sameMileage}
-use Rattle.contents.specs.Images.{imageLog, belowOk, unmarkedOk, markedOk, placeOk, placesOk, tallyOk, checksAllowed, imageOk}
+use Rattle.contents.specs.Estimates.{isB, isBlank, isSplit, isMileage, inRange, mileageOrBlank, mileageOrSplit, secondEstimateOk, sameEstimate, sameMileage}
+use Rattle.contents.specs.Images.{imageLog, belowOk, unmarkedOk, markedOk, cellOk, cellsOk, tallyOk, checksAllowed, imageOk}
 use Rattle.contents.specs.Logs.{numbersOk, roundOk, settingsOk, stateOk, logOk}
 use Rattle.contents.specs.Messages.{firstOk, checkOk, secondOk, skipOk, kindOk, messageOk}
 use Rattle.contents.specs.declared.Image.{Image}
@@ -52,8 +52,8 @@ module _ (l : Limits) where
   known-or-split true (Mileage m) h = leb-true _ _ (or-left (inRange l m) false h refl)
   known-or-split false (Mileage m) h = leb-true _ _ (or-left (inRange l m) false h refl)
 
-  pub known-second : (g : Engine) (e : Estimate) → secondFits l g e ≡ true → Known l e
-  unfolding secondFits
+  pub known-second : (g : Engine) (e : Estimate) → secondEstimateOk l g e ≡ true → Known l e
+  unfolding secondEstimateOk
   known-second g Blank h = tt
   known-second g Split h = tt
   known-second B (Mileage m) h = leb-true _ _ (or-left (inRange l m) false h refl)
@@ -78,6 +78,18 @@ pub record Numbers (n unit entry : ℕ) : Type 0 where
   pub entry-low : minEntry ≤ entry
   pub entry-high : entry ≤ maxEntry
 
+-- all in these ranges are accepted
+pub numbers-ok : (n unit entry : ℕ) → Numbers n unit entry → numbersOk n unit entry ≡ true
+numbers-ok n unit entry f =
+    rw (
+      le-leb minUnits n (f .n-low),
+      le-leb n maxUnits (f .n-high),
+      lt-ltb unit n (f .below),
+      le-leb minEntry entry (f .entry-low),
+      le-leb entry maxEntry (f .entry-high),
+    )
+
+-- and no others
 pub numbers-facts : (n unit entry : ℕ) → numbersOk n unit entry ≡ true → Numbers n unit entry
 numbers-facts n unit entry h =
     let a = both-true (leb minUnits n && leb n maxUnits && ltb unit n && leb minEntry entry) (leb entry maxEntry) h in
@@ -92,20 +104,9 @@ numbers-facts n unit entry h =
       entry-high = leb-true _ _ (a .1);
     }
 
--- and all in these ranges are accepted
-pub numbers-ok : (n unit entry : ℕ) → Numbers n unit entry → numbersOk n unit entry ≡ true
-numbers-ok n unit entry f =
-    rw (
-      le-leb minUnits n (f .n-low),
-      le-leb n maxUnits (f .n-high),
-      lt-ltb unit n (f .below),
-      le-leb minEntry entry (f .entry-low),
-      le-leb entry maxEntry (f .entry-high),
-    )
-
 -- in R the second estimate is always blank
-pub second-in-r : (l : Limits) (e : Estimate) → secondFits l R e ≡ true → e ≡ Blank
-unfolding secondFits
+pub second-in-r : (l : Limits) (e : Estimate) → secondEstimateOk l R e ≡ true → e ≡ Blank
+unfolding secondEstimateOk
 second-in-r l Blank h = refl
 second-in-r l Split h = never h
 second-in-r l (Mileage m) h = never h
@@ -114,14 +115,14 @@ pub record StateFacts (l : Limits) (g : Engine) (s : State) : Type 0 where
   pub round : s .round ≤ l .lastRound
   pub proposal : mileageOrBlank l (s .proposal) ≡ true
   pub first : mileageOrBlank l (s .first) ≡ true
-  pub second : secondFits l g (s .second) ≡ true
+  pub second : secondEstimateOk l g (s .second) ≡ true
 
 pub state-facts : (l : Limits) (g : Engine) (s : State) → stateOk l g s ≡ true → StateFacts l g s
 unfolding stateOk
 state-facts l g s h =
     let p = mileageOrBlank l (s .proposal) in
     let f = mileageOrBlank l (s .first) in
-    let a = both-true (roundOk l (s .round) && p && f) (secondFits l g (s .second)) h in
+    let a = both-true (roundOk l (s .round) && p && f) (secondEstimateOk l g (s .second)) h in
     let b = both-true (roundOk l (s .round) && p) f (a .0) in
     let c = both-true (roundOk l (s .round)) p (b .0) in
     record { round = leb-true _ _ (c .0); proposal = c .1; first = b .1; second = a .1 }
@@ -186,25 +187,25 @@ message-facts l m h =
     record { numbers = n; round = leb-true _ _ (b .1); kind = a .1; fields = kind-facts l (m .kind) m (n .n-high) (a .1) }
 
 -- a sender's mark and the estimate in its place
-pub record PlaceFacts (l : Limits) (split : Bool) (n s : ℕ) (marked : Bool) (e : Estimate) : Type 0 where
+pub record CellFacts (l : Limits) (split : Bool) (n s : ℕ) (marked : Bool) (e : Estimate) : Type 0 where
   pub below : belowOk n s marked ≡ true
   pub unmarked : unmarkedOk marked e ≡ true
   pub vote : markedOk l split marked e ≡ true
 
-place-facts : (l : Limits) (split : Bool) (n s : ℕ) (marked : Bool) (e : Estimate) → placeOk l split n s marked e ≡ true
-    → PlaceFacts l split n s marked e
-unfolding placeOk
-place-facts l split n s marked e h =
+cell-facts : (l : Limits) (split : Bool) (n s : ℕ) (marked : Bool) (e : Estimate) → cellOk l split n s marked e ≡ true
+    → CellFacts l split n s marked e
+unfolding cellOk
+cell-facts l split n s marked e h =
     let a = both-true (belowOk n s marked && unmarkedOk marked e) (markedOk l split marked e) h in
     let b = both-true (belowOk n s marked) (unmarkedOk marked e) (a .0) in
     record { below = b .0; unmarked = b .1; vote = a .1 }
 
-pub known-place : (l : Limits) (split : Bool) (n s : ℕ) (marked : Bool) (e : Estimate) → PlaceFacts l split n s marked e → Known l e
-known-place l split n s true e f = known-or-split l split e (f .vote)
-known-place l split n s false e f = known-blank l e (f .unmarked)
+pub known-cell : (l : Limits) (split : Bool) (n s : ℕ) (marked : Bool) (e : Estimate) → CellFacts l split n s marked e → Known l e
+known-cell l split n s true e f = known-or-split l split e (f .vote)
+known-cell l split n s false e f = known-blank l e (f .unmarked)
 
 pub record TallyFacts (l : Limits) (split : Bool) (g : Engine) (n : ℕ) (t : Tally) : Type 0 where
-  pub places : (s : ℕ) → s < senders → PlaceFacts l split n s (isMarked (t .marks) s) (placed t s)
+  pub places : (s : ℕ) → s < senders → CellFacts l split n s (isMarked (t .marks) s) (estimateAt t s)
   pub few : ones (t .marks) < quorumOf g n
 
 -- only units below n are marked
@@ -216,12 +217,12 @@ only-below l split g n t f u above b = go (isMarked (t .marks) u) (f .places u b
     go false h = refl
 
 tally-facts : (l : Limits) (split : Bool) (g : Engine) (n : ℕ) (t : Tally) → tallyOk l split g n t ≡ true → TallyFacts l split g n t
-unfolding tallyOk placesOk
+unfolding tallyOk cellsOk
 tally-facts l split g n t h =
-    let a = both-true (placesOk l split n t) (ltb (ones (t .marks)) (quorumOf g n)) h in
+    let a = both-true (cellsOk l split n t) (ltb (ones (t .marks)) (quorumOf g n)) h in
     record {
-      places = λ s b. place-facts l split n s (isMarked (t .marks) s) (placed t s)
-          (every-at senders (λ u. placeOk l split n u (isMarked (t .marks) u) (placed t u)) (a .0) s b);
+      places = λ s b. cell-facts l split n s (isMarked (t .marks) s) (estimateAt t s)
+          (every-at senders (λ u. cellOk l split n u (isMarked (t .marks) u) (estimateAt t u)) (a .0) s b);
       few = ltb-true _ _ (a .1);
     }
 

@@ -1,4 +1,4 @@
 pub mod Tests
-pub mod Facts
 pub mod Same
 pub mod KindRules
+pub mod Facts

@@ -3,7 +3,7 @@ use Prim.Native.Nat.{ℕ}
 use mathlib.Core.Bool.{Bool, true, false, not, _&&_, _||_}
 use lib.Dec.{leb}
 use Rattle.tally.specs.Limits.{Limits}
-use Rattle.tally.specs.Gathered.{holds}
+use Rattle.tally.specs.Gathered.{hasValue}
 use Rattle.tally.specs.declared.Engine.{Engine}
 use Rattle.tally.specs.declared.Engine.the-variants.{B, R}
 use Rattle.tally.specs.declared.Estimate.{Estimate}
@@ -43,8 +43,8 @@ unfoldable pub mileageOrSplit : Limits → Engine → Estimate → Bool
 mileageOrSplit l g e = isMileage l e || (isB g && isSplit e)
 
 -- a log's second estimate is a mileage, split or blank; in R always blank
-unfoldable pub secondFits : Limits → Engine → Estimate → Bool
-secondFits l g e = isBlank e || (isB g && (isMileage l e || isSplit e))
+unfoldable pub secondEstimateOk : Limits → Engine → Estimate → Bool
+secondEstimateOk l g e = isBlank e || (isB g && (isMileage l e || isSplit e))
 
 abbrev pub sameEngine : Engine → Engine → Bool
 sameEngine B b = isB b
@@ -53,7 +53,7 @@ sameEngine R b = not (isB b)
 abbrev pub sameEstimate : Estimate → Estimate → Bool
 sameEstimate Blank b = isBlank b
 sameEstimate Split b = isSplit b
-sameEstimate (Mileage v) b = holds v b
+sameEstimate (Mileage v) b = hasValue v b
 
 -- the same mileage
 unfoldable pub sameMileage : Limits → Estimate → Estimate → Bool

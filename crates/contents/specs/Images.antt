@@ -5,7 +5,7 @@ use lib.Count.{ones}
 use lib.Dec.{eqb, ltb}
 use Rattle.tally.specs.Limits.{Limits, senders}
 use Rattle.tally.specs.Quorum.{quorumOf}
-use Rattle.tally.specs.Tally.{isMarked, placed}
+use Rattle.tally.specs.Tally.{isMarked, estimateAt}
 use Rattle.tally.specs.declared.Engine.{Engine}
 use Rattle.tally.specs.declared.Estimate.{Estimate}
 use Rattle.tally.specs.declared.Tally.{Tally}
@@ -37,16 +37,16 @@ unmarkedOk marked e = marked || isBlank e
 abbrev pub markedOk : Limits → Bool → Bool → Estimate → Bool
 markedOk l split marked e = not marked || isMileage l e || (split && isSplit e)
 
-unfoldable pub placeOk : Limits → Bool → ℕ → ℕ → Bool → Estimate → Bool
-placeOk l split n s marked e = belowOk n s marked && unmarkedOk marked e && markedOk l split marked e
+unfoldable pub cellOk : Limits → Bool → ℕ → ℕ → Bool → Estimate → Bool
+cellOk l split n s marked e = belowOk n s marked && unmarkedOk marked e && markedOk l split marked e
 
 -- these three, of every sender
-unfoldable pub placesOk : Limits → Bool → ℕ → Tally → Bool
-placesOk l split n t = every senders (λ s. placeOk l split n s (isMarked (t .marks) s) (placed t s))
+unfoldable pub cellsOk : Limits → Bool → ℕ → Tally → Bool
+cellsOk l split n t = every senders (λ s. cellOk l split n s (isMarked (t .marks) s) (estimateAt t s))
 
 -- each count is below the quorum
 unfoldable pub tallyOk : Limits → Bool → Engine → ℕ → Tally → Bool
-tallyOk l split g n t = placesOk l split n t && ltb (ones (t .marks)) (quorumOf g n)
+tallyOk l split g n t = cellsOk l split n t && ltb (ones (t .marks)) (quorumOf g n)
 
 -- in R, or when the second estimate is not blank, there are no CHECK marks
 unfoldable pub checksAllowed : Engine → Estimate → ℕ → Bool

@@ -4,7 +4,7 @@ use mathlib.Core.Bool.{Bool, _&&_}
 use lib.Dec.{leb, ltb}
 use Rattle.tally.specs.Limits.{Limits, minUnits, maxUnits, minEntry, maxEntry}
 use Rattle.tally.specs.declared.Engine.{Engine}
-use Rattle.contents.specs.Estimates.{mileageOrBlank, secondFits}
+use Rattle.contents.specs.Estimates.{mileageOrBlank, secondEstimateOk}
 use Rattle.contents.specs.declared.Log.{Log}
 use Rattle.contents.specs.declared.Settings.{Settings}
 use Rattle.contents.specs.declared.State.{State}
@@ -22,7 +22,7 @@ settingsOk s = numbersOk (s .n) (s .unit) (s .entry)
 
 -- proposal and first estimate are a mileage or blank; the second estimate is a mileage, split or blank; in R always blank
 unfoldable pub stateOk : Limits → Engine → State → Bool
-stateOk l g s = roundOk l (s .round) && mileageOrBlank l (s .proposal) && mileageOrBlank l (s .first) && secondFits l g (s .second)
+stateOk l g s = roundOk l (s .round) && mileageOrBlank l (s .proposal) && mileageOrBlank l (s .first) && secondEstimateOk l g (s .second)
 
 unfoldable pub logOk : Limits → Log → Bool
 logOk l r = settingsOk (r .settings) && stateOk l (r .settings .engine) (r .state)

@@ -2,6 +2,8 @@
 use mathlib.Core.Bool.{Bool, true, false, _&&_}
 use lib.Dec.{eqb, ltb}
 use Rattle.tally.specs.Limits.{Limits, everyone}
+use Rattle.tally.specs.declared.Engine.the-variants.{B}
+use Rattle.tally.specs.declared.Estimate.the-variants.{Blank}
 use Rattle.contents.specs.Estimates.{isB, isBlank, mileageOrBlank, mileageOrSplit, sameMileage}
 use Rattle.contents.specs.Logs.{numbersOk, roundOk}
 use Rattle.contents.specs.declared.Kind.{Kind}
@@ -15,6 +17,10 @@ isEmpty First = false
 isEmpty Check = false
 isEmpty Second = false
 isEmpty Skip = false
+
+-- the contents of an empty message
+abbrev pub emptyMessage : Message
+emptyMessage = record { kind = Empty; engine = B; n = 0; sender = 0; receiver = 0; entry = 0; round = 0; estimate = Blank; proposal = Blank }
 
 -- F: receiver is everyone; estimate and proposal are the same mileage
 unfoldable pub firstOk : Limits → Message → Bool

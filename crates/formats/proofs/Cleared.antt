@@ -10,11 +10,11 @@ use Rattle.tally.specs.Limits.{Limits, messageSize}
 use Rattle.tally.specs.Refusal.{numberOf}
 use Rattle.tally.specs.declared.Refusal.{Refusal}
 use Rattle.contents.specs.Logs.{numbersOk, roundOk}
-use Rattle.contents.specs.Messages.{kindOk, messageOk}
+use Rattle.contents.specs.Messages.{kindOk, messageOk, emptyMessage}
 use Rattle.contents.specs.declared.Kind.the-variants.{Empty}
 use Rattle.contents.specs.declared.Message.{Message}
 use Rattle.formats.specs.Formats.{reading, wrote}
-use Rattle.formats.specs.Messages.{messageFormat, noMessage, emptyBytes, cleared, readMessage, writeMessage}
+use Rattle.formats.specs.Messages.{messageFormat, emptyBytes, cleared, readMessage, writeMessage}
 use Rattle.formats.specs.Numbers.{numAt}
 use Rattle.formats.proofs.Steps.{read-numbers-in, write-malformed}
 
@@ -39,7 +39,7 @@ num-zeros n o zero = refl
 num-zeros n o (suc k) = rw (num-zeros n o k, zeros n (o + k))
 
 -- an empty message counts as no message, and reading it gives 4
-pub empty-read : (l : Limits) → readMessage l (emptyBytes l) ≡ reading (numberOf Refusal.Message) noMessage
+pub empty-read : (l : Limits) → readMessage l (emptyBytes l) ≡ reading (numberOf Refusal.Message) emptyMessage
 unfolding readMessage
 empty-read l =
     read-numbers-in (messageFormat l) (emptyBytes l) (length-replicate {A = ℕ} (messageSize l) 0) (num-zeros (messageSize l) _ 1)

@@ -8,7 +8,7 @@ use native.Mathlib.Omega.{arith}
 use lib.ListN.{length, getD, take, drop, replicate, length-append, length-drop, length-map, take-append-drop}
 use lib.Seq.{take-at, drop-at, getD-take, length-take-le}
 use Rattle.tally.specs.Limits.{Limits, today, logSize, imageSize, logFields, senders, Sane}
-use Rattle.tally.specs.Tally.{Typed, blankCell, isMarked, placed}
+use Rattle.tally.specs.Tally.{Typed, blankCell, isMarked, estimateAt}
 use Rattle.tally.specs.declared.Cell.{Cell}
 use Rattle.tally.specs.declared.Engine.{Engine}
 use Rattle.tally.specs.declared.Tally.{Tally}
@@ -18,15 +18,14 @@ use Rattle.contents.specs.Estimates.{isB}
 use Rattle.contents.specs.Images.{imageLog, imageOk}
 use Rattle.contents.specs.Logs.{logOk}
 use Rattle.contents.specs.declared.Image.{Image}
-use Rattle.contents.proofs.Facts.{Known, TallyFacts, image-facts, known-place}
+use Rattle.contents.proofs.Facts.{Known, TallyFacts, image-facts, known-cell}
 use Rattle.formats.specs.Codes.{engineOf}
-use Rattle.formats.specs.Formats.{reading, withZero}
+use Rattle.formats.specs.Formats.{reading, withZero, numbersIn}
 use Rattle.formats.specs.Images.{cellOf, cellCode, tallyWidths, tallyNumbers, tallyOf, tallyFields, TypedImage, imageWidths, imageNumbers, imageOf}
 use Rattle.formats.specs.Images.{withTallies, parseImage, imageFormat, imageBytes, readImage, writeImage}
-use Rattle.formats.specs.InnerImages.{imageNumbersIn}
 use Rattle.formats.specs.Logs.{logWidths, logZero, logNumbers}
-use Rattle.formats.specs.Numbers.{Bytes, total}
-use Rattle.formats.specs.InnerNumbers.{packInto}
+use Rattle.formats.specs.Numbers.{Bytes}
+use Rattle.formats.specs.InnerNumbers.{packInto, total}
 use Rattle.formats.specs.RoundTrip.{RoundTrip}
 use Rattle.formats.specs.declared.EngineRead.the-variants.{Is}
 use Rattle.formats.proofs.Letters.{engine-letter, made, code-estimate, estimate-code, code-fits}
@@ -46,13 +45,13 @@ pub image-stored : (bs : List ℕ) (i : Image) → length (i .checks .cells) ≡
     ≡ imageBytes today i
 unfolding imageBytes
 image-stored bs i c s size =
-    let row = withZero logZero (logNumbers (imageLog i)) in
+    let front = withZero logZero (logNumbers (imageLog i)) in
     let rest = tallyNumbers (i .checks) ++ tallyNumbers (i .seconds) in
     sym
-    (packInto-append (logWidths today) (tallyWidths ++ tallyWidths) row rest bs 0 refl
-    ∙ packInto-append tallyWidths tallyWidths (tallyNumbers (i .checks)) (tallyNumbers (i .seconds)) (packInto bs 0 (logWidths today) row) (logSize today)
+    (packInto-append (logWidths today) (tallyWidths ++ tallyWidths) front rest bs 0 refl
+    ∙ packInto-append tallyWidths tallyWidths (tallyNumbers (i .checks)) (tallyNumbers (i .seconds)) (packInto bs 0 (logWidths today) front) (logSize today)
     (length-tally (i .checks) c))
-    ∙ packInto-eq (imageWidths today) (row ++ rest) bs 0 (simp (length-append, length-tally (i .checks) c, length-tally (i .seconds) s)) (sym size)
+    ∙ packInto-eq (imageWidths today) (front ++ rest) bs 0 (simp (length-append, length-tally (i .checks) c, length-tally (i .seconds) s)) (sym size)
 
 -- any numbers are some cells'
 codes-cells : (vs : List ℕ) → map cellCode (map cellOf vs) ≡ vs
@@ -97,7 +96,7 @@ module _ (l : Limits) (sane : Sane l) where
   pub known-cells : (split : Bool) (g : Engine) (n : ℕ) (t : Tally) → TallyFacts l split g n t → Typed t → AllKnown (t .cells)
   unfolding AllKnown
   known-cells split g n t f typed s h =
-      let b : s < senders = omega (arith, typed .cells) in known-place l split n s (isMarked (t .marks) s) (placed t s) (f .places s b)
+      let b : s < senders = omega (arith, typed .cells) in known-cell l split n s (isMarked (t .marks) s) (estimateAt t s) (f .places s b)
 
   module _ (t : Tally) (typed : Typed t) (known : AllKnown (t .cells)) where
     pub tally-back : tallyOf (tallyNumbers t) ≡ t
@@ -152,6 +151,6 @@ module _ (l : Limits) (sane : Sane l) where
 pub read-typed : (l : Limits) (sane : Sane l) (bs : List ℕ) (i : Image) → Bytes bs → readImage l bs ≡ reading 0 i → TypedImage i
 unfolding readImage
 read-typed l sane bs i b e =
-    made TypedImage imageOf (imageNumbersIn l bs) i (getD (imageNumbersIn l bs) 0 0)
+    made TypedImage imageOf (numbersIn (imageFormat l) bs) i (getD (numbersIn (imageFormat l) bs) 0 0)
     (λ g p. (record { marks = num-fits 2 _ bs b; cells = refl }, record { marks = num-fits 2 _ bs b; cells = refl }))
     (read-parsed (imageFormat l) TypedImage (lawful l sane) bs i e)

@@ -7,7 +7,7 @@ use native.Mathlib.Numerals.{add-one}
 use native.Mathlib.Omega.{arith}
 use lib.ListN.{length, drop, replicate, drop-of-length-le}
 use Rattle.tally.specs.Limits.{Limits, senders}
-use Rattle.tally.specs.Tally.{Typed, isMarked, blankCell, placed, held, noMarks}
+use Rattle.tally.specs.Tally.{Typed, isMarked, blankCell, estimateAt, held, noMarks}
 use Rattle.tally.specs.declared.Cell.{Cell}
 use Rattle.tally.specs.declared.Engine.{Engine}
 use Rattle.tally.specs.declared.Estimate.{Estimate}
@@ -17,7 +17,7 @@ use Rattle.tally.proofs.Marks.{unmarked-none}
 use Rattle.tally.proofs.Never.{never}
 use Rattle.tally.proofs.Tallies.{held-unmarked}
 use Rattle.contents.specs.Estimates.{isBlank}
-use Rattle.contents.specs.Images.{every, unmarkedOk, placeOk, placesOk}
+use Rattle.contents.specs.Images.{every, unmarkedOk, cellOk, cellsOk}
 use Rattle.contents.proofs.Facts.{TallyFacts}
 use Rattle.formats.specs.InnerImages.{heldFrom, asMarked}
 use Rattle.formats.proofs.Packed.{drop-step}
@@ -71,7 +71,7 @@ module _ (l : Limits) (split : Bool) (g : Engine) (n : ℕ) (t : Tally) (f : Tal
       let below : s < senders = omega arith in
       let long : s < length (t .cells) = omega (arith, typed .cells) in
       ap₂ (λ (x : Estimate) (cs : List Cell). record { estimate = x } ∷ cs)
-      (place-held (isMarked (t .marks) s) (placed t s) (f .places s below .unmarked))
+      (place-held (isMarked (t .marks) s) (estimateAt t s) (f .places s below .unmarked))
       (all-held k (suc s) (omega arith) ∙ ap (λ (j : ℕ). drop j (t .cells)) (sym (add-one s)))
       ∙ sym (drop-step (t .cells) s blankCell long)
 
@@ -81,8 +81,8 @@ module _ (l : Limits) (split : Bool) (g : Engine) (n : ℕ) (t : Tally) (f : Tal
 -- ---- places that are not marked
 
 -- an unmarked place is tested alone
-pub unmarked-place : (l : Limits) (split : Bool) (n s : ℕ) (e : Estimate) → placeOk l split n s false e ≡ isBlank e
-unfolding placeOk
+pub unmarked-place : (l : Limits) (split : Bool) (n s : ℕ) (e : Estimate) → cellOk l split n s false e ≡ isBlank e
+unfolding cellOk
 unmarked-place l split n s e = and-true (isBlank e)
 
 every-alike : (k : ℕ) (P Q : ℕ → Bool) → ((s : ℕ) → s < k → P s ≡ Q s) → every k P ≡ every k Q
@@ -92,9 +92,9 @@ every-alike (suc k) P Q same = rw (every-alike k P Q (λ s b. same s (omega arit
 
 -- a tally without marks is well formed where each place is blank
 pub blank-places : (l : Limits) (split : Bool) (n : ℕ) (t : Tally) (Q : ℕ → Bool) → t .marks ≡ 0
-    → ((s : ℕ) → s < senders → Q s ≡ isBlank (placed t s)) → every senders Q ≡ placesOk l split n t
-unfolding placesOk
+    → ((s : ℕ) → s < senders → Q s ≡ isBlank (estimateAt t s)) → every senders Q ≡ cellsOk l split n t
+unfolding cellsOk
 blank-places l split n t Q none same =
     every-alike senders Q _
-    (λ s b. same s b ∙ sym (ap (λ (m : Bool). placeOk l split n s m (placed t s)) (ap (λ (x : ℕ). isMarked x s) none ∙ unmarked-none s)
-    ∙ unmarked-place l split n s (placed t s)))
+    (λ s b. same s b ∙ sym (ap (λ (m : Bool). cellOk l split n s m (estimateAt t s)) (ap (λ (x : ℕ). isMarked x s) none ∙ unmarked-none s)
+    ∙ unmarked-place l split n s (estimateAt t s)))

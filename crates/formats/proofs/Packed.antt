@@ -7,8 +7,8 @@ use native.Mathlib.Numerals.{add-one}
 use native.Mathlib.Omega.{arith}
 use lib.ListN.{length, getD, take, drop, length-append, length-drop, take-append-drop, drop-of-length-le, replicate}
 use lib.Seq.{sets, sets-eq, take-at, drop-at, drop-append-le, getD-at, getD-drop, take-suc, take-all, drop-drop, length-take-le, length-sets, drop-cons}
-use Rattle.formats.specs.Numbers.{numAt, bytesOf, Bytes, total, unpack, pack}
-use Rattle.formats.specs.InnerNumbers.{packInto}
+use Rattle.formats.specs.Numbers.{numAt, bytesOf, Bytes, unpack, pack}
+use Rattle.formats.specs.InnerNumbers.{packInto, total}
 
 -- each number fits its width, and there is one for each
 abbrev pub Fit : List ℕ → List ℕ → Type 0

@@ -9,7 +9,7 @@ use lib.Dec.{eqb}
 use lib.ListN.{length, getD, replicate, length-append}
 use borrow.Author.Tests.{eq-eqb, ne-eqb, eqb-true}
 use Rattle.tally.specs.Limits.{today, imageSize, senders}
-use Rattle.tally.specs.Tally.{Typed, isMarked, blankCell, placed, held}
+use Rattle.tally.specs.Tally.{Typed, isMarked, blankCell, estimateAt, held}
 use Rattle.tally.specs.declared.Engine.{Engine}
 use Rattle.tally.specs.declared.Estimate.the-variants.{Blank}
 use Rattle.tally.specs.declared.Tally.{Tally}
@@ -19,19 +19,20 @@ use Rattle.tally.proofs.Bounds.{sane-today}
 use Rattle.contents.specs.Images.{imageOk, fits}
 use Rattle.contents.specs.declared.Image.{Image}
 use Rattle.contents.specs.declared.Log.{Log}
+use Rattle.contents.specs.declared.Settings.{Settings}
 use Rattle.contents.specs.declared.State.{State}
 use Rattle.contents.proofs.Facts.{TallyFacts, image-facts}
 use Rattle.contents.proofs.Tests.{both-true}
-use Rattle.formats.specs.Codes.{codeOf, estimateOf}
+use Rattle.formats.specs.Codes.{letterOf, codeOf, estimateOf}
 use Rattle.formats.specs.Formats.{reading, checked, withZero}
 use Rattle.formats.specs.declared.StateRead.{StateRead}
 use Rattle.formats.specs.Images.{TypedImage, cellOf, cellCode, cellWidths, tallyWidths, tallyOf, tallyNumbers, withTallies, imageWidths, imageNumbers}
 use Rattle.formats.specs.Images.{imageFormat, imageBytes, noImage}
 use Rattle.formats.specs.InnerImages.{tallyAt, fitState, checksAt, secondsAt, inImage, asMarked, tallyFrom, stateOver, tallyOver, imageOver}
 use Rattle.formats.specs.Logs.{logZero}
-use Rattle.formats.specs.InnerLogs.{settingsWidths, settingsNumbers, stateWidths, stateNumbers, roundAt}
-use Rattle.formats.specs.Numbers.{numAt, bytesOf, total, unpack, pack}
-use Rattle.formats.specs.InnerNumbers.{packInto}
+use Rattle.formats.specs.InnerLogs.{settingsWidths, stateWidths, stateNumbers, roundAt}
+use Rattle.formats.specs.Numbers.{numAt, bytesOf, unpack, pack}
+use Rattle.formats.specs.InnerNumbers.{packInto, total}
 use Rattle.formats.proofs.ImageFormat as image
 use Rattle.formats.proofs.Marked.{length-held, typed-marked, as-marked}
 use Rattle.formats.proofs.Packed.{num-bytes, unpack-part, pack-append, packInto-part, length-packed}
@@ -55,8 +56,8 @@ pub held-at : (marks o k : ℕ) (bs : List ℕ) → k < senders
 unfolding held
 held-at marks o k bs h = rw (cell-at senders k o bs h)
 
-pub placed-at : (o k : ℕ) (bs : List ℕ) → k < senders → placed (tallyAt o bs) k ≡ estimateOf (numAt bs (o + 2 + 4 * k) 4)
-placed-at o k bs h = rw (cell-at senders k (o + 2) bs h)
+pub estimate-at : (o k : ℕ) (bs : List ℕ) → k < senders → estimateAt (tallyAt o bs) k ≡ estimateOf (numAt bs (o + 2 + 4 * k) 4)
+estimate-at o k bs h = rw (cell-at senders k (o + 2) bs h)
 
 -- ---- an image that is tested where it stands
 
@@ -74,6 +75,10 @@ fit-checked i log = go (imageOk today i)
 
 abbrev tallyBytes : Tally → List ℕ
 tallyBytes t = pack tallyWidths (tallyNumbers t)
+
+-- a log's settings with the zero
+abbrev settingsNumbers : Settings → List ℕ
+settingsNumbers s = letterOf (s .engine) ∷ s .n ∷ s .unit ∷ 0 ∷ s .entry ∷ []
 
 abbrev settingsBytes : Image → List ℕ
 settingsBytes i = pack settingsWidths (settingsNumbers (i .settings))
@@ -214,7 +219,11 @@ module _ (i : Image) (t : TypedImage i) (ok : imageOk today i ≡ true) where
       tally-read _ _ _ (i .seconds) _ (front i ++ tallyBytes (i .checks)) [] secondsAt (t .1) (image-facts today i ok .seconds) (length-image i t)
       (by-seconds i t) (length-before i t)
 
--- ---- a buffer of another length
+-- ---- a change is made to a buffer of an image's length, and to no other
+
+pub in-image : (change : List ℕ → List ℕ) (bs : List ℕ) → length bs ≡ imageSize today → inImage change bs ≡ change bs
+unfolding inImage
+in-image change bs e = rw (eq-eqb (length bs) (imageSize today) e)
 
 pub in-image-other : (change : List ℕ → List ℕ) (bs : List ℕ) → (length bs ≡ imageSize today → ⊥) → inImage change bs ≡ bs
 unfolding inImage

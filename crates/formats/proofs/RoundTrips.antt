@@ -11,11 +11,12 @@ use lib.Seq.{take-at, drop-at, getD-at, split-at, append-snoc, length-take-le}
 use borrow.Author.Tests.{ne-eqb, eqb-true}
 use Rattle.formats.specs.Formats.{ReadAnswer, reading, WriteAnswer, wrote, Format, withZero, without, numbersIn, zeroByte, checked, fromNumbers}
 use Rattle.formats.specs.Formats.{readBytes, toBytes, writeBytes}
-use Rattle.formats.specs.Numbers.{Bytes, total, unpack, pack}
+use Rattle.formats.specs.Numbers.{Bytes, unpack, pack}
 use Rattle.formats.specs.RoundTrip.{RoundTrip}
 use Rattle.tally.specs.Refusal.{numberOf}
 use Rattle.tally.specs.declared.Refusal.the-variants.{Length}
 use Rattle.tally.proofs.Never.{never}
+use Rattle.formats.specs.InnerNumbers.{total}
 use Rattle.formats.proofs.Steps.{read-numbers-in, write-malformed, write-contents}
 use Rattle.formats.proofs.Packed.{Fit, length-pack, length-unpack, unpack-pack, pack-unpack}
 
@@ -91,9 +92,9 @@ module _ {A : Type 0} (f : Format A) (Typed : A → Type 0) (law : LawfulFormat 
       let k = f .zeroAt in
       let bs = pack (f .widths) (withZero k vs) in
       let below : k ≤ length vs = omega (arith, law .counted, law .placed) in
-      let row : unpack 0 (f .widths) bs ≡ withZero k vs = unpack-pack (f .widths) (withZero k vs) [] 0 refl fit in
-      read-numbers-in f bs (length-pack (f .widths) (withZero k vs) fit ∙ sym (law .sized)) (rw row (zero-there k vs below))
-      ∙ ap (fromNumbers f) (ap (without k) row ∙ without-zero k vs below)
+      let back : unpack 0 (f .widths) bs ≡ withZero k vs = unpack-pack (f .widths) (withZero k vs) [] 0 refl fit in
+      read-numbers-in f bs (length-pack (f .widths) (withZero k vs) fit ∙ sym (law .sized)) (rw back (zero-there k vs below))
+      ∙ ap (fromNumbers f) (ap (without k) back ∙ without-zero k vs below)
 
   -- reading what was written gives the contents
   pub read-written : (a : A) → Typed a → f .ok a ≡ true → readBytes f (toBytes f a) ≡ reading 0 a
@@ -116,15 +117,15 @@ module _ {A : Type 0} (f : Format A) (Typed : A → Type 0) (law : LawfulFormat 
       go false u len z e = let one : numberOf Length ≡ 0 = ap (λ (r : ReadAnswer A). r .number) e in absurd (omega arith)
 
   -- the zero byte has its place among the numbers, and the other numbers are the fields
-  in-row : (bs : List ℕ) → f .zeroAt < length (unpack 0 (f .widths) bs)
-  in-row bs = omega (arith, law .placed, length-unpack 0 (f .widths) bs)
+  in-widths : (bs : List ℕ) → f .zeroAt < length (unpack 0 (f .widths) bs)
+  in-widths bs = omega (arith, law .placed, length-unpack 0 (f .widths) bs)
 
-  length-row : (bs : List ℕ) → length (numbersIn f bs) ≡ f .fields
-  length-row bs = omega (arith, law .counted, length-without (f .zeroAt) (unpack 0 (f .widths) bs) (in-row bs), length-unpack 0 (f .widths) bs)
+  length-numbers : (bs : List ℕ) → length (numbersIn f bs) ≡ f .fields
+  length-numbers bs = omega (arith, law .counted, length-without (f .zeroAt) (unpack 0 (f .widths) bs) (in-widths bs), length-unpack 0 (f .widths) bs)
 
   -- what is read is well formed, and has the numbers of the bytes
   read-fields : (bs : List ℕ) (a : A) → readBytes f bs ≡ reading 0 a → (f .ok a ≡ true) × (f .numbers a ≡ numbersIn f bs)
-  read-fields bs a e = numbers-back (numbersIn f bs) a (length-row bs) (passed bs a e .numbers)
+  read-fields bs a e = numbers-back (numbersIn f bs) a (length-numbers bs) (passed bs a e .numbers)
 
   -- and is what they were parsed as
   pub read-parsed : (bs : List ℕ) (a : A) → readBytes f bs ≡ reading 0 a → f .parse (numbersIn f bs) ≡ some a
@@ -136,7 +137,7 @@ module _ {A : Type 0} (f : Format A) (Typed : A → Type 0) (law : LawfulFormat 
       let p = passed bs a e in
       let g = read-fields bs a e in
       let vs = unpack 0 (f .widths) bs in
-      (g .0, rw (g .1, zero-back (f .zeroAt) vs (in-row bs) (p .zero-byte)) (pack-unpack (f .widths) bs 0 b (omega (arith, p .size, law .sized))))
+      (g .0, rw (g .1, zero-back (f .zeroAt) vs (in-widths bs) (p .zero-byte)) (pack-unpack (f .widths) bs 0 b (omega (arith, p .size, law .sized))))
 
   -- the number of a refusal is not 0
   pub refused-number : (bs : List ℕ) (k : ℕ) → readBytes f bs ≡ reading k (f .nothing) → eqb k 0 ≡ false

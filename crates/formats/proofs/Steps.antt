@@ -11,9 +11,9 @@ use Rattle.tally.specs.Refusal.{numberOf}
 use Rattle.tally.specs.declared.Engine.{Engine}
 use Rattle.tally.specs.declared.Refusal.the-variants.{Length}
 use Rattle.formats.specs.Codes.{engineOf, withEngine}
-use Rattle.formats.specs.Formats.{reading, wrote, Format, withZero, numbersIn, zeroByte, checked, fromNumbers, readBytes, toBytes, writeBytes, stored}
-use Rattle.formats.specs.Numbers.{total}
-use Rattle.formats.specs.InnerNumbers.{packInto}
+use Rattle.formats.specs.Formats.{reading, wrote, Format, withZero, numbersIn, zeroByte, checked, fromNumbers, readBytes, toBytes, writeBytes}
+use Rattle.formats.specs.InnerNumbers.{packInto, total}
+use Rattle.formats.specs.InnerFormats.{stored}
 use Rattle.formats.specs.declared.EngineRead.{EngineRead}
 use Rattle.formats.specs.declared.EngineRead.the-variants.{Unknown}
 use Rattle.formats.proofs.Packed.{packInto-eq}

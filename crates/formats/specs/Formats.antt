@@ -77,11 +77,7 @@ readBytes f bs =
 abbrev pub toBytes : {A : Type 0} → Format A → A → List ℕ
 toBytes f a = pack (f .widths) (withZero (f .zeroAt) (f .numbers a))
 
--- writing a to a buffer that holds bs: refused as reading would, and then `kept` stands there
+-- writing a to a buffer that holds bs: refused as reading would, and then `left` stands there
 abbrev pub writeBytes : {A : Type 0} → Format A → A → List ℕ → List ℕ → WriteAnswer
-writeBytes f a kept bs =
-    cond (eqb (length bs) (f .size)) (cond (f .ok a) (wrote 0 (toBytes f a)) (wrote (f .malformed) kept)) (wrote (numberOf Length) kept)
-
--- contents known to be well formed go into a buffer of the right length; another keeps its bytes
-unfoldable pub stored : {A : Type 0} → Format A → A → List ℕ → List ℕ
-stored f a bs = cond (eqb (length bs) (f .size)) (toBytes f a) bs
+writeBytes f a left bs =
+    cond (eqb (length bs) (f .size)) (cond (f .ok a) (wrote 0 (toBytes f a)) (wrote (f .malformed) left)) (wrote (numberOf Length) left)

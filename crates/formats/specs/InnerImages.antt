@@ -4,7 +4,7 @@ use mathlib.Core.Bool.{Bool, cond, _&&_}
 use lib.Dec.{eqb}
 use mathlib.Core.List.{List, [], _∷_}
 use lib.ListN.{length}
-use Rattle.tally.specs.Limits.{Limits, today, logSize, imageSize, senders}
+use Rattle.tally.specs.Limits.{today, logSize, imageSize, senders}
 use Rattle.tally.specs.Tally.{held, noMarks}
 use Rattle.tally.specs.declared.Cell.{Cell}
 use Rattle.tally.specs.declared.Tally.{Tally}
@@ -12,11 +12,11 @@ use Rattle.contents.specs.Images.{fits}
 use Rattle.contents.specs.declared.Image.{Image}
 use Rattle.contents.specs.declared.Log.{Log}
 use Rattle.contents.specs.declared.State.{State}
-use Rattle.formats.specs.Formats.{ReadAnswer, numbersIn}
+use Rattle.formats.specs.Formats.{ReadAnswer}
 use Rattle.formats.specs.InnerLogs.{settingsWidths, stateWidths, stateNumbers, roundAt}
-use Rattle.formats.specs.Numbers.{numAt, total, unpack}
-use Rattle.formats.specs.InnerNumbers.{packInto}
-use Rattle.formats.specs.Images.{tallyWidths, tallyNumbers, tallyOf, imageFormat}
+use Rattle.formats.specs.Numbers.{numAt, unpack}
+use Rattle.formats.specs.InnerNumbers.{packInto, total}
+use Rattle.formats.specs.Images.{tallyWidths, tallyNumbers, tallyOf}
 use Rattle.formats.specs.declared.StateRead.{StateRead}
 
 -- where the tallies stand, and the tally at a place
@@ -63,7 +63,3 @@ imageOver s c d bs =
 -- a change to the bytes of an image; a buffer of another length keeps its bytes
 unfoldable pub inImage : (List ℕ → List ℕ) → List ℕ → List ℕ
 inImage change bs = cond (eqb (length bs) (imageSize today)) (change bs) bs
-
--- the numbers that bytes hold, the zero byte left out
-abbrev pub imageNumbersIn : Limits → List ℕ → List ℕ
-imageNumbersIn l bs = numbersIn (imageFormat l) bs

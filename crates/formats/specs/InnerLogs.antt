@@ -4,14 +4,14 @@ use mathlib.Core.Bool.{cond}
 use mathlib.Core.List.{List, [], _∷_}
 use lib.Dec.{eqb}
 use Rattle.tally.specs.Limits.{Limits, today}
-use Rattle.contents.specs.declared.Settings.{Settings}
 use Rattle.contents.specs.declared.State.{State}
-use Rattle.formats.specs.Codes.{letterOf, engineOf, codeOf}
+use Rattle.formats.specs.Codes.{engineOf, codeOf}
 use Rattle.formats.specs.Formats.{numbersIn}
 use Rattle.formats.specs.declared.EngineRead.{EngineRead}
 use Rattle.formats.specs.declared.EngineRead.the-variants.{Unknown}
-use Rattle.formats.specs.Numbers.{numAt, total}
+use Rattle.formats.specs.Numbers.{numAt}
 use Rattle.formats.specs.Logs.{logZero, logFormat}
+use Rattle.formats.specs.InnerNumbers.{total}
 
 -- the engine of a log or an image, unknown also where the zero byte is not 0
 abbrev pub engineAt : List ℕ → EngineRead
@@ -23,9 +23,6 @@ settingsWidths = 1 ∷ 1 ∷ 1 ∷ 1 ∷ 2 ∷ []
 
 abbrev pub stateWidths : Limits → List ℕ
 stateWidths l = l .roundWidth ∷ 4 ∷ 4 ∷ 4 ∷ []
-
-abbrev pub settingsNumbers : Settings → List ℕ
-settingsNumbers s = letterOf (s .engine) ∷ s .n ∷ s .unit ∷ 0 ∷ s .entry ∷ []
 
 abbrev pub stateNumbers : State → List ℕ
 stateNumbers s = s .round ∷ codeOf (s .proposal) ∷ codeOf (s .first) ∷ codeOf (s .second) ∷ []

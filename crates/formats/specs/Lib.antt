@@ -5,6 +5,7 @@ pub mod Codes
 pub mod Logs
 pub mod Messages
 pub mod Images
+pub mod InnerFormats
 pub mod InnerNumbers
 pub mod InnerLogs
 pub mod InnerMessages

@@ -8,12 +8,9 @@ use lib.ListN.{length, getD, replicate}
 use Rattle.tally.specs.Limits.{Limits, messageSize, messageFields}
 use Rattle.tally.specs.Refusal.{numberOf}
 use Rattle.tally.specs.declared.Engine.{Engine}
-use Rattle.tally.specs.declared.Engine.the-variants.{B}
-use Rattle.tally.specs.declared.Estimate.the-variants.{Blank}
 use Rattle.tally.specs.declared.Refusal.{Refusal}
-use Rattle.contents.specs.Messages.{messageOk}
+use Rattle.contents.specs.Messages.{messageOk, emptyMessage}
 use Rattle.contents.specs.declared.Kind.{Kind}
-use Rattle.contents.specs.declared.Kind.the-variants.{Empty}
 use Rattle.contents.specs.declared.Message.{Message}
 use Rattle.formats.specs.Codes.{letterOf, engineOf, kindLetter, kindOf, codeOf, estimateOf}
 use Rattle.formats.specs.Formats.{ReadAnswer, reading, WriteAnswer, Format, readBytes, writeBytes}
@@ -59,10 +56,6 @@ lettersRead KindUnknown e vs = none
 abbrev pub parseMessage : List ℕ → Option Message
 parseMessage vs = lettersRead (kindOf (getD vs 0 0)) (engineOf (getD vs 1 0)) vs
 
--- stands in the place of a message that is refused
-abbrev pub noMessage : Message
-noMessage = messageOf Empty B (0 ∷ 0 ∷ 0 ∷ 0 ∷ 0 ∷ 0 ∷ 0 ∷ codeOf Blank ∷ codeOf Blank ∷ [])
-
 -- 4: message malformed
 abbrev pub messageFormat : Limits → Format Message
 messageFormat l =
@@ -75,13 +68,13 @@ messageFormat l =
       parse = parseMessage;
       ok = messageOk l;
       malformed = numberOf Refusal.Message;
-      nothing = noMessage;
+      nothing = emptyMessage;
     }
 
 -- the code's answer, as number and contents
 abbrev pub messageReading : MessageRead → ReadAnswer Message
 messageReading (Read m) = reading 0 m
-messageReading (Refused k) = reading (numberOf k) noMessage
+messageReading (Refused k) = reading (numberOf k) emptyMessage
 
 unfoldable pub readMessage : Limits → List ℕ → ReadAnswer Message
 readMessage l bs = readBytes (messageFormat l) bs

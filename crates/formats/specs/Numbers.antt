@@ -17,11 +17,6 @@ bytesOf (suc k) x = bytesOf k (x / 256) ++ (x % 256 ∷ [])
 abbrev pub Bytes : List ℕ → Type 0
 Bytes bs = (i : ℕ) → getD bs i 0 < 256
 
--- how many bytes numbers take, from their widths
-abbrev pub total : List ℕ → ℕ
-total [] = 0
-total (w ∷ ws) = w + total ws
-
 -- the numbers that start at o
 abbrev pub unpack : ℕ → List ℕ → List ℕ → List ℕ
 unpack o [] bs = []

@@ -17,13 +17,13 @@ ghost use Rattle.tally.specs.Limits.{today, imageSize, senders, blankCode};
 ghost use Rattle.tally.specs.Tally.{noMarks};
 ghost use Rattle.tally.specs.declared.Estimate.the-variants.{Blank};
 ghost use Rattle.contents.specs.Estimates.{isBlank};
-ghost use Rattle.contents.specs.Images.{every, placeOk, placesOk, tallyOk, imageOk, fits};
+ghost use Rattle.contents.specs.Images.{every, cellOk, cellsOk, tallyOk, imageOk, fits};
 ghost use Rattle.formats.specs.Codes.{codeOf, estimateOf};
-ghost use Rattle.formats.specs.Numbers.{numAt, total, unpack};
-ghost use Rattle.formats.specs.InnerNumbers.{packInto};
-ghost use Rattle.formats.specs.Formats.{stored};
+ghost use Rattle.formats.specs.Numbers.{numAt, unpack};
+ghost use Rattle.formats.specs.InnerNumbers.{packInto, total};
 ghost use Rattle.formats.specs.Images.{cellOf, cellCode, cellWidths, tallyWidths, tallyNumbers, withTallies, imageFormat, readImage};
 ghost use Rattle.formats.specs.InnerImages.{tallyAt, checksAt, secondsAt, fitState, heldFrom, asMarked, tallyFrom, stateOver, tallyOver, imageOver, inImage};
+ghost use Rattle.formats.specs.InnerFormats.{stored};
 
 // Where the tallies stand, and where a tally's estimates do.
 const AT_CHECKS: usize = limits::LOG_SIZE;
@@ -88,22 +88,22 @@ fn blanks_at(s: &[u8], at: usize) -> bool
     ok
 }
 
-fn place_at(s: &[u8], at: usize, split: bool, n: u8, sender: u8, marked: bool) -> bool
+fn cell_ok_at(s: &[u8], at: usize, split: bool, n: u8, sender: u8, marked: bool) -> bool
     requires { ⌜ at + 4 ≤ length (now s) ⌝ }
-    ensures { λ r. ⌜ r ≡ placeOk today split n sender marked (estimateOf (numAt (now (s .entry)) at 4)) ⌝ }
+    ensures { λ r. ⌜ r ≡ cellOk today split n sender marked (estimateOf (numAt (now (s .entry)) at 4)) ⌝ }
 {
     if marked {
         let e = codes::estimate_of(big_endian::be32(s, at));
-        rules::images::place_ok(split, n, sender, marked, e)
+        rules::images::cell_ok(split, n, sender, marked, e)
     } else {
         is_blank_at(s, at)
     }
 }
 
 // A tally without marks is tested in one pass.
-fn places_at(s: &[u8], at: usize, split: bool, n: u8) -> bool
+fn cells_ok_at(s: &[u8], at: usize, split: bool, n: u8) -> bool
     requires { ⌜ at + total tallyWidths ≤ length (now s) ⌝ }
-    ensures { λ r. ⌜ r ≡ placesOk today split n (tallyAt at (now (s .entry))) ⌝ }
+    ensures { λ r. ⌜ r ≡ cellsOk today split n (tallyAt at (now (s .entry))) ⌝ }
 {
     let marks = big_endian::be16(s, at);
     if marks == 0 {
@@ -112,7 +112,7 @@ fn places_at(s: &[u8], at: usize, split: bool, n: u8) -> bool
     let mut from = at + AT_CELLS;
     let mut ok = true;
     for k in 0..limits::MAX_UNITS {
-        ok = ok & place_at(s, from, split, n, k, tally::is_marked(marks, k));
+        ok = ok & cell_ok_at(s, from, split, n, k, tally::is_marked(marks, k));
         from += 4;
     }
     ok
@@ -122,7 +122,7 @@ fn tally_ok_at(s: &[u8], at: usize, split: bool, engine: Engine, n: u8) -> bool
     requires { ⌜ at + total tallyWidths ≤ length (now s) ⌝ }
     ensures { λ r. ⌜ r ≡ tallyOk today split engine n (tallyAt at (now (s .entry))) ⌝ }
 {
-    places_at(s, at, split, n)
+    cells_ok_at(s, at, split, n)
         & (u16::count_ones(big_endian::be16(s, at)) < tally::quorum(engine, n))
 }
 
@@ -284,9 +284,10 @@ fn put_changed(t: Tally, same: bool, out: &mut [u8], at: usize)
 pub fn put_state(s: State, out: &mut [u8])
     ensures { λ _. ⌜ now (out .exit) ≡ inImage (stateOver s) (now (out .entry)) ⌝ }
 {
-    if out.len() == limits::IMAGE_SIZE {
-        codec::logs::put_state_at(s, out);
+    if out.len() != limits::IMAGE_SIZE {
+        return;
     }
+    codec::logs::put_state_at(s, out);
 }
 
 // Stores a state in an image, and of the tallies those that it does not have already; a buffer of another length keeps its bytes.

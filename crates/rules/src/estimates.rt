@@ -4,7 +4,7 @@ use tally::Estimate;
 use tally::limits;
 ghost use mathlib.Core.Path.{_≡_};
 ghost use Rattle.tally.specs.Limits.{today};
-ghost use Rattle.contents.specs.Estimates.{inRange, isB, isBlank, isSplit, isMileage, mileageOrBlank, mileageOrSplit, secondFits, sameMileage, sameEngine};
+ghost use Rattle.contents.specs.Estimates.{inRange, isB, isBlank, isSplit, isMileage, mileageOrBlank, mileageOrSplit, secondEstimateOk, sameMileage, sameEngine};
 ghost use Rattle.contents.specs.Estimates.{sameEstimate};
 
 pub fn is_b(e: Engine) -> bool
@@ -66,8 +66,8 @@ pub fn mileage_or_split(engine: Engine, e: Estimate) -> bool
 }
 
 // What a log's second estimate can be.
-pub fn second_fits(engine: Engine, e: Estimate) -> bool
-    ensures { λ r. ⌜ r ≡ secondFits today engine e ⌝ }
+pub fn second_estimate_ok(engine: Engine, e: Estimate) -> bool
+    ensures { λ r. ⌜ r ≡ secondEstimateOk today engine e ⌝ }
 {
     is_blank(e) | (is_b(engine) & (is_mileage(e) | is_split(e)))
 }
@@ -87,7 +87,7 @@ pub fn same_estimate(a: Estimate, b: Estimate) -> bool
     match a {
         Estimate::Blank => is_blank(b),
         Estimate::Split => is_split(b),
-        Estimate::Mileage(v) => tally::holds(b, v),
+        Estimate::Mileage(v) => tally::has_value(b, v),
     }
 }
 

@@ -6,11 +6,11 @@ use tally::Engine;
 use tally::Estimate;
 ghost use mathlib.Core.Path.{_≡_};
 ghost use Rattle.tally.specs.Limits.{today};
-ghost use Rattle.contents.specs.Images.{placeOk, checksAllowed, sameSettings, stateFits};
+ghost use Rattle.contents.specs.Images.{cellOk, checksAllowed, sameSettings, stateFits};
 
 // A sender's mark, and the estimate in its place; `split` says whether a marked one may be split.
-pub fn place_ok(split: bool, n: u8, sender: u8, marked: bool, e: Estimate) -> bool
-    ensures { λ r. ⌜ r ≡ placeOk today split n sender marked e ⌝ }
+pub fn cell_ok(split: bool, n: u8, sender: u8, marked: bool, e: Estimate) -> bool
+    ensures { λ r. ⌜ r ≡ cellOk today split n sender marked e ⌝ }
 {
     if marked {
         (sender < n) & (estimates::is_mileage(e) | (split & estimates::is_split(e)))

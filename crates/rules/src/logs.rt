@@ -42,7 +42,7 @@ pub fn state_ok(engine: Engine, s: State) -> bool
     round_ok(s.round)
         & estimates::mileage_or_blank(proposal)
         & estimates::mileage_or_blank(first)
-        & estimates::second_fits(engine, second)
+        & estimates::second_estimate_ok(engine, second)
 }
 
 pub fn well_formed(log: Log) -> bool

@@ -12,8 +12,8 @@ use Rattle.script.specs.Parts.{comma, onto, parted}
 use Rattle.script.specs.Script.{oneOf, twoOf, unitBelow, pairBelow, ofOne, ofTwo, letterP, letterD, letterW, letterK, letterU, byLetter, eventFields}
 use Rattle.script.specs.Script.{eventOf, eventUnit}
 use Rattle.script.specs.declared.ScriptEvent.{ScriptEvent}
-use Rattle.script.specs.declared.Number.{Number}
-use Rattle.script.specs.declared.Pair.{Pair}
+use Rattle.script.specs.declared.NumberRead.{NumberRead}
+use Rattle.script.specs.declared.PairRead.{PairRead}
 
 cond-same : (t : Bool) (x : ScriptEvent) → cond t x x ≡ x
 cond-same true x = refl
@@ -22,7 +22,7 @@ cond-same false x = refl
 module _ (n : ℕ) where
   -- ---- first bytes
 
-  letter-malformed : (b : ℕ) (fs : List (List ℕ)) → oneOf fs ≡ Number.Malformed → twoOf fs ≡ Pair.Malformed → byLetter n b fs ≡ ScriptEvent.Malformed
+  letter-malformed : (b : ℕ) (fs : List (List ℕ)) → oneOf fs ≡ NumberRead.Malformed → twoOf fs ≡ PairRead.Malformed → byLetter n b fs ≡ ScriptEvent.Malformed
   unfolding byLetter
   letter-malformed b fs p q = simp (p, q, cond-same)
 
@@ -61,21 +61,21 @@ module _ (n : ℕ) where
   -- ---- units
 
   module _ (some : 0 < n) where
-    one-unit : (make : ℕ → ScriptEvent) → ((u : ℕ) → eventUnit (make u) ≡ u) → (a : Number) → eventUnit (ofOne make (unitBelow n a)) < n
-    one-unit make e (Number.Is u) = go (ltb u n) refl
+    one-unit : (make : ℕ → ScriptEvent) → ((u : ℕ) → eventUnit (make u) ≡ u) → (a : NumberRead) → eventUnit (ofOne make (unitBelow n a)) < n
+    one-unit make e (NumberRead.Is u) = go (ltb u n) refl
       where
-        go : (t : Bool) → ltb u n ≡ t → eventUnit (ofOne make (cond t (Number.Is u) Number.Malformed)) < n
+        go : (t : Bool) → ltb u n ≡ t → eventUnit (ofOne make (cond t (NumberRead.Is u) NumberRead.Malformed)) < n
         go true t = rw (e u) (ltb-true u n t)
         go false t = some
-    one-unit make e Number.Malformed = some
+    one-unit make e NumberRead.Malformed = some
 
-    two-unit : (make : ℕ → ℕ → ScriptEvent) → ((u x : ℕ) → eventUnit (make u x) ≡ u) → (p : Pair) → eventUnit (ofTwo make (pairBelow n p)) < n
-    two-unit make e (Pair.Are u x) = go (ltb u n) refl
+    two-unit : (make : ℕ → ℕ → ScriptEvent) → ((u x : ℕ) → eventUnit (make u x) ≡ u) → (p : PairRead) → eventUnit (ofTwo make (pairBelow n p)) < n
+    two-unit make e (PairRead.Are u x) = go (ltb u n) refl
       where
-        go : (t : Bool) → ltb u n ≡ t → eventUnit (ofTwo make (cond t (Pair.Are u x) Pair.Malformed)) < n
+        go : (t : Bool) → ltb u n ≡ t → eventUnit (ofTwo make (cond t (PairRead.Are u x) PairRead.Malformed)) < n
         go true t = rw (e u x) (ltb-true u n t)
         go false t = some
-    two-unit make e Pair.Malformed = some
+    two-unit make e PairRead.Malformed = some
 
     either : (t : Bool) (x y : ScriptEvent) → eventUnit x < n → eventUnit y < n → eventUnit (cond t x y) < n
     either true x y p q = p

@@ -9,14 +9,14 @@ use Rattle.script.specs.Script.{letterP, letterD, letterW, letterK, lett
 use Rattle.script.specs.declared.ScriptEvent.{ScriptEvent}
 use Rattle.script.specs.declared.Header.{Header}
 use Rattle.script.specs.declared.HeaderRead.{HeaderRead}
-use Rattle.script.specs.declared.Number.{Number}
+use Rattle.script.specs.declared.NumberRead.{NumberRead}
 
 -- the bytes of a field, of a header, of a line with n = 3, and of a script
 pub data Question : Type 0 where
   field header line whole : List ℕ → Question
 
 pub data Outcome : Type 0 where
-  aNumber : Number → Outcome
+  aNumber : NumberRead → Outcome
   aHeader : HeaderRead → Outcome
   anEvent : ScriptEvent → Outcome
   aScript : Script → Outcome
@@ -77,10 +77,10 @@ return = 13
 -- ---- cases
 
 abbrev number : List ℕ → ℕ → Case
-number ds v = record { question = field (digits ds); expected = aNumber (Number.Is v) }
+number ds v = record { question = field (digits ds); expected = aNumber (NumberRead.Is v) }
 
 abbrev noNumber : List ℕ → Case
-noNumber s = record { question = field s; expected = aNumber Number.Malformed }
+noNumber s = record { question = field s; expected = aNumber NumberRead.Malformed }
 
 abbrev heads : List ℕ → Engine → ℕ → ℕ → Case
 heads s engine n entry = record { question = header s; expected = aHeader (HeaderRead.Is (record { engine = engine; n = n; entry = entry })) }
@@ -119,10 +119,11 @@ cases =
     ∷ noNumber (plus ∷ digits (1 ∷ []))
     ∷ noNumber (space ∷ digits (1 ∷ []))
     ∷ noNumber (quote ∷ digits (1 ∷ []))
-    -- ,3,7; B,3,7; R,16,9999
+    -- ,3,7; B,3,7; R,16,9999; B,3,1
     ∷ heads (fields ([] ∷ digits (3 ∷ []) ∷ digits (7 ∷ []) ∷ [])) Engine.B 3 7
     ∷ heads head Engine.B 3 7
     ∷ heads (with R ((1 ∷ 6 ∷ []) ∷ (9 ∷ 9 ∷ 9 ∷ 9 ∷ []) ∷ [])) Engine.R 16 9999
+    ∷ heads (with B ((3 ∷ []) ∷ (1 ∷ []) ∷ [])) Engine.B 3 1
     -- B,2,7; B,17,7; B,3,0; B,3,10000; b,3,7; BB,3,7; B,3; B,3,7 and a comma
     ∷ noHeader (with B ((2 ∷ []) ∷ (7 ∷ []) ∷ []))
     ∷ noHeader (with B ((1 ∷ 7 ∷ []) ∷ (7 ∷ []) ∷ []))

@@ -13,8 +13,8 @@ use Rattle.script.specs.Numbers.{digitZero, digitNine, isDigit, allDigit
 use Rattle.script.specs.Parts.{comma, parted}
 use Rattle.script.specs.InnerParts.{before}
 use Rattle.script.specs.Script.{both, oneOf, twoOf}
-use Rattle.script.specs.declared.Number.{Number}
-use Rattle.script.specs.declared.Pair.{Pair}
+use Rattle.script.specs.declared.NumberRead.{NumberRead}
+use Rattle.script.specs.declared.PairRead.{PairRead}
 use Rattle.script.proofs.Parting.{parted-there, parted-none, parted-some}
 
 pub digit-range : (b : ℕ) → isDigit b ≡ true → (digitZero ≤ b) × (b ≤ digitNine)
@@ -32,11 +32,11 @@ pub digits-whole : (s : List ℕ) → allDigits s ≡ true → parted comma s �
 digits-whole s h = parted-none comma s (no-comma s h)
 
 -- a field with a comma is no number
-comma-in : (s : List ℕ) → before comma s < length s → readNumber s ≡ Number.Malformed
+comma-in : (s : List ℕ) → before comma s < length s → readNumber s ≡ NumberRead.Malformed
 unfolding isNumber readNumber
 comma-in s h = go (allDigits s) refl
   where
-    go : (t : Bool) → allDigits s ≡ t → readNumber s ≡ Number.Malformed
+    go : (t : Bool) → allDigits s ≡ t → readNumber s ≡ NumberRead.Malformed
     go true e = absurd (omega (arith, no-comma s e))
     go false e = simp (e, and-false)
 
@@ -50,9 +50,9 @@ one-number s = go (decLt (before comma s) (length s))
 pub two-numbers : (p s : List ℕ) → twoOf (p ∷ parted comma s) ≡ both (readNumber p) (readNumber s)
 two-numbers p s = go (decLt (before comma s) (length s))
   where
-    not-both : (a : Number) → Pair.Malformed ≡ both a Number.Malformed
-    not-both (Number.Is x) = refl
-    not-both Number.Malformed = refl
+    not-both : (a : NumberRead) → PairRead.Malformed ≡ both a NumberRead.Malformed
+    not-both (NumberRead.Is x) = refl
+    not-both NumberRead.Malformed = refl
 
     go : Dec (before comma s < length s) → twoOf (p ∷ parted comma s) ≡ both (readNumber p) (readNumber s)
     go (yes l) = rw (parted-there comma s l, comma-in s l, parted-some comma (drop (before comma s + 1) s) .same) (not-both (readNumber p))

@@ -13,7 +13,7 @@ use Rattle.script.specs.Parts.{comma, parted}
 use Rattle.script.specs.Script.{twoOf, engineField, inRanges, headerWith, withNumbers, headerFields, headerOf}
 use Rattle.script.specs.declared.Header.{Header}
 use Rattle.script.specs.declared.HeaderRead.{HeaderRead}
-use Rattle.script.specs.declared.Pair.{Pair}
+use Rattle.script.specs.declared.PairRead.{PairRead}
 
 pub ranges : (n entry : ℕ) → inRanges n entry ≡ true → (minUnits ≤ n) × (n ≤ maxUnits) × (minEntry ≤ entry) × (entry ≤ maxEntry)
 ranges n entry h =
@@ -34,13 +34,13 @@ header-range line h = of-fields (parted comma line)
     of-engine (EngineRead.Is g) n entry r e = let q : _≡_ {A = Header} (record { engine = g; n = n; entry = entry }) h = cc in rw (← q) r
     of-engine EngineRead.Unknown n entry r e = unread e
 
-    of-numbers : (f : List ℕ) (p : Pair) → withNumbers f p ≡ HeaderRead.Is h → inRanges (h .n) (h .entry) ≡ true
-    of-numbers f (Pair.Are n entry) e = go (inRanges n entry) refl
+    of-numbers : (f : List ℕ) (p : PairRead) → withNumbers f p ≡ HeaderRead.Is h → inRanges (h .n) (h .entry) ≡ true
+    of-numbers f (PairRead.Are n entry) e = go (inRanges n entry) refl
       where
         go : (t : Bool) → inRanges n entry ≡ t → inRanges (h .n) (h .entry) ≡ true
         go true r = of-engine (engineField n f) n entry r (rw r at e)
         go false r = unread (rw r at e)
-    of-numbers f Pair.Malformed e = unread e
+    of-numbers f PairRead.Malformed e = unread e
 
     of-fields : (fs : List (List ℕ)) → headerFields fs ≡ HeaderRead.Is h → inRanges (h .n) (h .entry) ≡ true
     of-fields [] e = unread e

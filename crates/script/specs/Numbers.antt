@@ -4,7 +4,7 @@ use mathlib.Core.Bool.{Bool, true, not, cond, _&&_}
 use mathlib.Core.List.{List, [], _∷_}
 use lib.Dec.{leb, eqb}
 use lib.ListN.{length, getD}
-use Rattle.script.specs.declared.Number.{Number}
+use Rattle.script.specs.declared.NumberRead.{NumberRead}
 
 -- digits are in ASCII
 abbrev pub digitZero : ℕ
@@ -44,5 +44,5 @@ isNumber s =
     && not (leadingZero s)
     && leb (valueFrom 0 s) maxNumber
 
-unfoldable pub readNumber : List ℕ → Number
-readNumber s = cond (isNumber s) (Number.Is (valueFrom 0 s)) Number.Malformed
+unfoldable pub readNumber : List ℕ → NumberRead
+readNumber s = cond (isNumber s) (NumberRead.Is (valueFrom 0 s)) NumberRead.Malformed

@@ -13,27 +13,27 @@ use Rattle.script.specs.Parts.{comma, newline, parted}
 use Rattle.script.specs.declared.ScriptEvent.{ScriptEvent}
 use Rattle.script.specs.declared.Header.{Header}
 use Rattle.script.specs.declared.HeaderRead.{HeaderRead}
-use Rattle.script.specs.declared.Number.{Number}
-use Rattle.script.specs.declared.Pair.{Pair}
+use Rattle.script.specs.declared.NumberRead.{NumberRead}
+use Rattle.script.specs.declared.PairRead.{PairRead}
 
 -- ---- numbers in fields
 
-abbrev pub both : Number → Number → Pair
-both (Number.Is a) (Number.Is b) = Pair.Are a b
-both (Number.Is a) Number.Malformed = Pair.Malformed
-both Number.Malformed b = Pair.Malformed
+abbrev pub both : NumberRead → NumberRead → PairRead
+both (NumberRead.Is a) (NumberRead.Is b) = PairRead.Are a b
+both (NumberRead.Is a) NumberRead.Malformed = PairRead.Malformed
+both NumberRead.Malformed b = PairRead.Malformed
 
 -- fields that are one number, or two; field counts are exact
-abbrev pub oneOf : List (List ℕ) → Number
-oneOf [] = Number.Malformed
+abbrev pub oneOf : List (List ℕ) → NumberRead
+oneOf [] = NumberRead.Malformed
 oneOf (a ∷ []) = readNumber a
-oneOf (a ∷ b ∷ fs) = Number.Malformed
+oneOf (a ∷ b ∷ fs) = NumberRead.Malformed
 
-abbrev pub twoOf : List (List ℕ) → Pair
-twoOf [] = Pair.Malformed
-twoOf (a ∷ []) = Pair.Malformed
+abbrev pub twoOf : List (List ℕ) → PairRead
+twoOf [] = PairRead.Malformed
+twoOf (a ∷ []) = PairRead.Malformed
 twoOf (a ∷ b ∷ []) = both (readNumber a) (readNumber b)
-twoOf (a ∷ b ∷ c ∷ fs) = Pair.Malformed
+twoOf (a ∷ b ∷ c ∷ fs) = PairRead.Malformed
 
 -- ---- header: engine, n, entry
 
@@ -54,9 +54,9 @@ abbrev pub headerWith : EngineRead → ℕ → ℕ → HeaderRead
 headerWith (EngineRead.Is g) n entry = HeaderRead.Is (record { engine = g; n = n; entry = entry })
 headerWith EngineRead.Unknown n entry = HeaderRead.Malformed
 
-abbrev pub withNumbers : List ℕ → Pair → HeaderRead
-withNumbers f (Pair.Are n entry) = cond (inRanges n entry) (headerWith (engineField n f) n entry) HeaderRead.Malformed
-withNumbers f Pair.Malformed = HeaderRead.Malformed
+abbrev pub withNumbers : List ℕ → PairRead → HeaderRead
+withNumbers f (PairRead.Are n entry) = cond (inRanges n entry) (headerWith (engineField n f) n entry) HeaderRead.Malformed
+withNumbers f PairRead.Malformed = HeaderRead.Malformed
 
 abbrev pub headerFields : List (List ℕ) → HeaderRead
 headerFields [] = HeaderRead.Malformed
@@ -68,21 +68,21 @@ headerOf line = headerFields (parted comma line)
 -- ---- events: P,unit,mileage; D,unit,message; W,unit,message; K,unit; U,unit
 
 -- a unit number of n or more is malformed
-abbrev pub unitBelow : ℕ → Number → Number
-unitBelow n (Number.Is u) = cond (ltb u n) (Number.Is u) Number.Malformed
-unitBelow n Number.Malformed = Number.Malformed
+abbrev pub unitBelow : ℕ → NumberRead → NumberRead
+unitBelow n (NumberRead.Is u) = cond (ltb u n) (NumberRead.Is u) NumberRead.Malformed
+unitBelow n NumberRead.Malformed = NumberRead.Malformed
 
-abbrev pub pairBelow : ℕ → Pair → Pair
-pairBelow n (Pair.Are u x) = cond (ltb u n) (Pair.Are u x) Pair.Malformed
-pairBelow n Pair.Malformed = Pair.Malformed
+abbrev pub pairBelow : ℕ → PairRead → PairRead
+pairBelow n (PairRead.Are u x) = cond (ltb u n) (PairRead.Are u x) PairRead.Malformed
+pairBelow n PairRead.Malformed = PairRead.Malformed
 
-abbrev pub ofOne : (ℕ → ScriptEvent) → Number → ScriptEvent
-ofOne make (Number.Is u) = make u
-ofOne make Number.Malformed = ScriptEvent.Malformed
+abbrev pub ofOne : (ℕ → ScriptEvent) → NumberRead → ScriptEvent
+ofOne make (NumberRead.Is u) = make u
+ofOne make NumberRead.Malformed = ScriptEvent.Malformed
 
-abbrev pub ofTwo : (ℕ → ℕ → ScriptEvent) → Pair → ScriptEvent
-ofTwo make (Pair.Are u x) = make u x
-ofTwo make Pair.Malformed = ScriptEvent.Malformed
+abbrev pub ofTwo : (ℕ → ℕ → ScriptEvent) → PairRead → ScriptEvent
+ofTwo make (PairRead.Are u x) = make u x
+ofTwo make PairRead.Malformed = ScriptEvent.Malformed
 
 abbrev pub letterP : ℕ
 letterP = 80

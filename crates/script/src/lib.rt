@@ -2,13 +2,13 @@
 use tally::Engine;
 
 // A field that should be a number.
-pub enum Number {
+pub enum NumberRead {
     Malformed,
     Is(u32),
 }
 
 // Two fields that should be numbers.
-pub enum Pair {
+pub enum PairRead {
     Malformed,
     Are(u32, u32),
 }

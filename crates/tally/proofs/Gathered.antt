@@ -8,7 +8,7 @@ use lib.Dec.{eqb, eqb·suc-suc}
 use lib.ListN.{length}
 use borrow.Author.Tests.{eq-eqb, ne-eqb, eqb-true, eqb-false, le-leb, lt-leb, leb-true}
 use Rattle.tally.specs.Count.{bump, passing}
-use Rattle.tally.specs.Gathered.{anyMileage, holds, holders, allHold, common, firstPassing, lowest, leads, majority}
+use Rattle.tally.specs.Gathered.{anyMileage, hasValue, holders, allHold, common, firstPassing, lowest, leads, majority}
 use Rattle.tally.specs.InnerGathered.{agrees}
 use Rattle.tally.specs.Quorum.{quorumOf, majorityOf}
 use Rattle.tally.specs.declared.Engine.the-variants.{R}
@@ -20,20 +20,20 @@ use Rattle.tally.proofs.Quorums.{majority-blocks}
 
 -- R: where fewer than a majority of the quorum gathered hold v, those that do not stop a quorum of v
 pub others-block : (n v : ℕ) (es : List Estimate) → length es ≡ quorumOf R n → holders v es < majorityOf n
-    → n - quorumOf R n + 1 ≤ passing (λ e. not (holds v e)) es
+    → n - quorumOf R n + 1 ≤ passing (λ e. not (hasValue v e)) es
 unfolding holders
-others-block n v es q h = omega (arith, majority-blocks n (passing (holds v) es) h, passing-split (λ e. true) (holds v) es, passing-all es)
+others-block n v es q h = omega (arith, majority-blocks n (passing (hasValue v) es) h, passing-split (λ e. true) (hasValue v) es, passing-all es)
 
 -- all hold v exactly where as many hold v as there are
 pub all-counted : (v : ℕ) (es : List Estimate) → allHold v es ≡ eqb (holders v es) (length es)
 unfolding allHold holders
 all-counted v [] = refl
-all-counted v (e ∷ es) = go (holds v e) (all-counted v es)
+all-counted v (e ∷ es) = go (hasValue v e) (all-counted v es)
   where
-    go : (b : Bool) → allHold v es ≡ eqb (passing (holds v) es) (length es) → (b && allHold v es) ≡ eqb (bump b (passing (holds v) es))
+    go : (b : Bool) → allHold v es ≡ eqb (passing (hasValue v) es) (length es) → (b && allHold v es) ≡ eqb (bump b (passing (hasValue v) es))
         (suc (length es))
-    go true h = h ∙ sym (eqb·suc-suc (passing (holds v) es) (length es))
-    go false h = sym (ne-eqb (passing (holds v) es) (suc (length es)) (λ e. omega (arith, passing-le (holds v) es)))
+    go true h = h ∙ sym (eqb·suc-suc (passing (hasValue v) es) (length es))
+    go false h = sym (ne-eqb (passing (hasValue v) es) (suc (length es)) (λ e. omega (arith, passing-le (hasValue v) es)))
 
 -- what is common to those that all agree so far, as a loop has it, and to more
 abbrev pub after : Estimate → List Estimate → Estimate
@@ -82,15 +82,15 @@ first-none P (e ∷ es) h = go (first-none P es) (P e) refl h
 holders-apart : (v w : ℕ) → (v ≡ w → ⊥) → (es : List Estimate) → holders v es + holders w es ≤ length es
 unfolding holders
 holders-apart v w n [] = omega arith
-holders-apart v w n (e ∷ es) = go (holds v e) (holds w e) (apart e) (holders-apart v w n es)
+holders-apart v w n (e ∷ es) = go (hasValue v e) (hasValue w e) (apart e) (holders-apart v w n es)
   where
-    apart : (e : Estimate) → holds v e ≡ true → holds w e ≡ true → ⊥
+    apart : (e : Estimate) → hasValue v e ≡ true → hasValue w e ≡ true → ⊥
     apart Blank p q = never cc
     apart Split p q = never cc
     apart (Mileage x) p q = n (sym (eqb-true x v p) ∙ eqb-true x w q)
 
-    go : (a b : Bool) → (a ≡ true → b ≡ true → ⊥) → passing (holds v) es + passing (holds w) es ≤ length es
-        → bump a (passing (holds v) es) + bump b (passing (holds w) es) ≤ suc (length es)
+    go : (a b : Bool) → (a ≡ true → b ≡ true → ⊥) → passing (hasValue v) es + passing (hasValue w) es ≤ length es
+        → bump a (passing (hasValue v) es) + bump b (passing (hasValue w) es) ≤ suc (length es)
     go true true f h = absurd (f refl refl)
     go true false f h = omega arith
     go false true f h = omega arith
@@ -126,7 +126,7 @@ majority-found need es v over h = go (firstPassing P es) refl
     P : Estimate → Bool
     P = leads need es
 
-    weaker : (e : Estimate) → holds v e ≡ true → P e ≡ true
+    weaker : (e : Estimate) → hasValue v e ≡ true → P e ≡ true
     weaker Blank p = p
     weaker Split p = p
     weaker (Mileage x) p = rw (eqb-true x v p) (le-leb need (holders v es) h)
@@ -136,7 +136,7 @@ majority-found need es v over h = go (firstPassing P es) refl
       where
         by : (b : Bool) → P (firstPassing P es) ≡ b → b ≡ true
         by true e = refl
-        by false e = absurd (omega (arith, first-none P es e, passing-mono (holds v) P es (each (λ e. holds v e ≡ true → P e ≡ true) weaker es)))
+        by false e = absurd (omega (arith, first-none P es e, passing-mono (hasValue v) P es (each (λ e. hasValue v e ≡ true → P e ≡ true) weaker es)))
 
     go : (e : Estimate) → firstPassing P es ≡ e → firstPassing P es ≡ Mileage v
     go Blank e = never (cc some)

@@ -13,9 +13,9 @@ use lib.Pow.{pow-lt, pow-pos}
 use lib.Seq.{getD-set-same, getD-set-other}
 use Rattle.tally.specs.Limits.{senders}
 use Rattle.tally.specs.Count.{bump, passing, count, Both}
-use Rattle.tally.specs.Gathered.{holds, holders, firstPassing}
+use Rattle.tally.specs.Gathered.{hasValue, holders, firstPassing}
 use Rattle.tally.specs.InnerGathered.{agrees}
-use Rattle.tally.specs.Tally.{Typed, OnlyBelow, noMarks, isMarked, blankCell, placed, held, mark, gatheredFrom, gathered}
+use Rattle.tally.specs.Tally.{Typed, OnlyBelow, noMarks, isMarked, blankCell, estimateAt, held, mark, gatheredFrom, gathered}
 use Rattle.tally.specs.Quorum.{quorumOf}
 use Rattle.tally.specs.declared.Cell.{Cell}
 use Rattle.tally.specs.declared.Engine.{Engine}
@@ -32,42 +32,42 @@ abbrev pub rest : Tally → ℕ → List Estimate
 rest t s = gatheredFrom t s (senders - s)
 
 -- one turn of a loop over the senders
-rest-step : (t : Tally) (s : ℕ) → s < senders → rest t s ≡ cond (isMarked (t .marks) s) (placed t s ∷ rest t (s + 1)) (rest t (s + 1))
+rest-step : (t : Tally) (s : ℕ) → s < senders → rest t s ≡ cond (isMarked (t .marks) s) (estimateAt t s ∷ rest t (s + 1)) (rest t (s + 1))
 unfolding gatheredFrom
 rest-step t s below = let e : senders - s ≡ suc (senders - (s + 1)) = omega arith in rw e (rw (add-one s))
 
 -- the same, for those that pass a test
 module _ (P : Estimate → Bool) (t : Tally) (s : ℕ) (below : s < senders) where
-  pub passing-step : passing P (rest t s) ≡ bump (isMarked (t .marks) s && P (placed t s)) (passing P (rest t (s + 1)))
+  pub passing-step : passing P (rest t s) ≡ bump (isMarked (t .marks) s && P (estimateAt t s)) (passing P (rest t (s + 1)))
   passing-step = ap (passing P) (rest-step t s below) ∙ go (isMarked (t .marks) s) (rest t (s + 1))
     where
-      go : (b : Bool) (es : List Estimate) → passing P (cond b (placed t s ∷ es) es) ≡ bump (b && P (placed t s)) (passing P es)
+      go : (b : Bool) (es : List Estimate) → passing P (cond b (estimateAt t s ∷ es) es) ≡ bump (b && P (estimateAt t s)) (passing P es)
       go true es = refl
       go false es = refl
 
-  pub first-step : firstPassing P (rest t s) ≡ cond (isMarked (t .marks) s && P (placed t s)) (placed t s) (firstPassing P (rest t (s + 1)))
+  pub first-step : firstPassing P (rest t s) ≡ cond (isMarked (t .marks) s && P (estimateAt t s)) (estimateAt t s) (firstPassing P (rest t (s + 1)))
   unfolding firstPassing
   first-step = ap (firstPassing P) (rest-step t s below) ∙ go (isMarked (t .marks) s) (rest t (s + 1))
     where
-      go : (b : Bool) (es : List Estimate) → firstPassing P (cond b (placed t s ∷ es) es) ≡ cond (b && P (placed t s)) (placed t s) (firstPassing P es)
+      go : (b : Bool) (es : List Estimate) → firstPassing P (cond b (estimateAt t s ∷ es) es) ≡ cond (b && P (estimateAt t s)) (estimateAt t s) (firstPassing P es)
       go true es = refl
       go false es = refl
 
 -- the same, for what is common
 pub after-step : (a : Estimate) (t : Tally) (s : ℕ) → s < senders
     → after a (rest t s)
-    ≡ cond (isMarked (t .marks) s) (cond (agrees a (placed t s)) (after (placed t s) (rest t (s + 1))) Split) (after a (rest t (s + 1)))
+    ≡ cond (isMarked (t .marks) s) (cond (agrees a (estimateAt t s)) (after (estimateAt t s) (rest t (s + 1))) Split) (after a (rest t (s + 1)))
 after-step a t s below = ap (after a) (rest-step t s below) ∙ go (isMarked (t .marks) s) (rest t (s + 1))
   where
     go : (b : Bool) (es : List Estimate)
-        → after a (cond b (placed t s ∷ es) es) ≡ cond b (cond (agrees a (placed t s)) (after (placed t s) es) Split) (after a es)
-    go true es = after-one a (placed t s) es
+        → after a (cond b (estimateAt t s ∷ es) es) ≡ cond b (cond (agrees a (estimateAt t s)) (after (estimateAt t s) es) Split) (after a es)
+    go true es = after-one a (estimateAt t s) es
     go false es = refl
 
 -- those gathered that pass a test are the marked senders whose estimate does
 module _ (P : Estimate → Bool) (t : Tally) where
   abbrev Q : ℕ → Bool
-  Q u = isMarked (t .marks) u && P (placed t u)
+  Q u = isMarked (t .marks) u && P (estimateAt t u)
 
   passing-from : (s k : ℕ) → passing P (gatheredFrom t s k) + count s Q ≡ count (s + k) Q
   unfolding gatheredFrom
@@ -78,9 +78,9 @@ module _ (P : Estimate → Bool) (t : Tally) where
       later : List Estimate
       later = gatheredFrom t (suc s) k
 
-      go : (b : Bool) → isMarked (t .marks) s ≡ b → passing P (cond b (placed t s ∷ later) later) + count s Q ≡ passing P later + count (suc s) Q
+      go : (b : Bool) → isMarked (t .marks) s ≡ b → passing P (cond b (estimateAt t s ∷ later) later) + count s Q ≡ passing P later + count (suc s) Q
       go false e = rw e
-      go true e = rw e (by (P (placed t s)))
+      go true e = rw e (by (P (estimateAt t s)))
         where
           by : (c : Bool) → bump c (passing P later) + count s Q ≡ passing P later + bump c (count s Q)
           by true = omega arith
@@ -99,35 +99,35 @@ length-gathered t h =
     ∙ sym (ones-senders (t .marks) h)
 
 -- the holders of v, counted over unit numbers
-pub holders-senders : (v : ℕ) (t : Tally) → holders v (gathered t) ≡ count senders (λ u. holds v (held t u))
+pub holders-senders : (v : ℕ) (t : Tally) → holders v (gathered t) ≡ count senders (λ u. hasValue v (held t u))
 unfolding holders held
 holders-senders v t =
-    passing-senders (holds v) t
-    ∙ count-same senders (λ u. isMarked (t .marks) u && holds v (placed t u)) (λ u. holds v (cond (isMarked (t .marks) u) (placed t u) Blank))
-    (λ u b. go (isMarked (t .marks) u) (placed t u))
+    passing-senders (hasValue v) t
+    ∙ count-same senders (λ u. isMarked (t .marks) u && hasValue v (estimateAt t u)) (λ u. hasValue v (cond (isMarked (t .marks) u) (estimateAt t u) Blank))
+    (λ u b. go (isMarked (t .marks) u) (estimateAt t u))
   where
-    go : (b : Bool) (e : Estimate) → (b && holds v e) ≡ holds v (cond b e Blank)
+    go : (b : Bool) (e : Estimate) → (b && hasValue v e) ≡ hasValue v (cond b e Blank)
     go true e = refl
     go false e = refl
 
 -- a sender that is marked has its estimate in its place, and the others keep theirs
-pub placed-same : (t : Tally) (s : ℕ) (e : Estimate) → s < length (t .cells) → placed (mark t s e) s ≡ e
+pub estimate-same-at : (t : Tally) (s : ℕ) (e : Estimate) → s < length (t .cells) → estimateAt (mark t s e) s ≡ e
 unfolding mark
-placed-same t s e h = ap (λ (c : Cell). c .estimate) (getD-set-same (t .cells) s (record { estimate = e }) blankCell h)
+estimate-same-at t s e h = ap (λ (c : Cell). c .estimate) (getD-set-same (t .cells) s (record { estimate = e }) blankCell h)
 
-pub placed-other : (t : Tally) (s u : ℕ) (e : Estimate) → (u ≡ s → ⊥) → placed (mark t s e) u ≡ placed t u
+pub estimate-other-at : (t : Tally) (s u : ℕ) (e : Estimate) → (u ≡ s → ⊥) → estimateAt (mark t s e) u ≡ estimateAt t u
 unfolding mark
-placed-other t s u e n = ap (λ (c : Cell). c .estimate) (getD-set-other (t .cells) s u (record { estimate = e }) blankCell n)
+estimate-other-at t s u e n = ap (λ (c : Cell). c .estimate) (getD-set-other (t .cells) s u (record { estimate = e }) blankCell n)
 
 -- and so it holds it
 pub held-same : (t : Tally) (s : ℕ) (e : Estimate) → s < length (t .cells) → held (mark t s e) s ≡ e
 unfolding held mark
-held-same t s e h = rw (mark-same (t .marks) s) (placed-same t s e h)
+held-same t s e h = rw (mark-same (t .marks) s) (estimate-same-at t s e h)
 
 pub held-other : (t : Tally) (s u : ℕ) (e : Estimate) → (u ≡ s → ⊥) → held (mark t s e) u ≡ held t u
 unfolding held mark
 held-other t s u e n =
-    rw (mark-other (t .marks) s u n) (ap (λ (x : Estimate). cond (isMarked (t .marks) u) x Blank) (placed-other t s u e n))
+    rw (mark-other (t .marks) s u n) (ap (λ (x : Estimate). cond (isMarked (t .marks) u) x Blank) (estimate-other-at t s u e n))
 
 -- without marks nothing is held
 pub held-unmarked : (t : Tally) → t .marks ≡ 0 → (s : ℕ) → held t s ≡ Blank

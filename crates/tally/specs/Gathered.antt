@@ -14,19 +14,19 @@ anyMileage Split = false
 anyMileage (Mileage w) = true
 
 -- the mileage v
-abbrev pub holds : ℕ → Estimate → Bool
-holds v Blank = false
-holds v Split = false
-holds v (Mileage w) = eqb w v
+abbrev pub hasValue : ℕ → Estimate → Bool
+hasValue v Blank = false
+hasValue v Split = false
+hasValue v (Mileage w) = eqb w v
 
 -- how many of es are the mileage v
 unfoldable pub holders : ℕ → List Estimate → ℕ
-holders v es = passing (holds v) es
+holders v es = passing (hasValue v) es
 
 -- all of es are the mileage v
 unfoldable pub allHold : ℕ → List Estimate → Bool
 allHold v [] = true
-allHold v (e ∷ es) = holds v e && allHold v es
+allHold v (e ∷ es) = hasValue v e && allHold v es
 
 -- the common mileage, or split if they differ: B 30 to 33 and 40, R 31
 unfoldable pub common : List Estimate → Estimate

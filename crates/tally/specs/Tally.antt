@@ -25,12 +25,12 @@ abbrev pub blankCell : Cell
 blankCell = record { estimate = Blank }
 
 -- the estimate in a sender's place
-abbrev pub placed : Tally → ℕ → Estimate
-placed t s = getD (t .cells) s blankCell .estimate
+abbrev pub estimateAt : Tally → ℕ → Estimate
+estimateAt t s = getD (t .cells) s blankCell .estimate
 
 -- what a sender is marked with, blank where it is not marked
 unfoldable pub held : Tally → ℕ → Estimate
-held t s = cond (isMarked (t .marks) s) (placed t s) Blank
+held t s = cond (isMarked (t .marks) s) (estimateAt t s) Blank
 
 -- no sender is marked, and every place is blank
 unfoldable pub noMarks : Tally
@@ -43,7 +43,7 @@ mark t s e = record { marks = bitOr (t .marks) (2 ^ s); cells = set (t .cells) s
 -- the estimates of the marked among the k senders from s on, in rising order of sender
 unfoldable pub gatheredFrom : Tally → ℕ → ℕ → List Estimate
 gatheredFrom t s zero = []
-gatheredFrom t s (suc k) = cond (isMarked (t .marks) s) (placed t s ∷ gatheredFrom t (suc s) k) (gatheredFrom t (suc s) k)
+gatheredFrom t s (suc k) = cond (isMarked (t .marks) s) (estimateAt t s ∷ gatheredFrom t (suc s) k) (gatheredFrom t (suc s) k)
 
 -- of all senders
 unfoldable pub gathered : Tally → List Estimate

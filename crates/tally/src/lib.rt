@@ -9,7 +9,7 @@ ghost use Rattle.tally.specs.Limits.{senders};
 ghost use Rattle.tally.specs.Refusal.{numberOf};
 ghost use Rattle.tally.specs.Quorum.{quorumOf, majorityOf};
 ghost use Rattle.tally.specs.Tally.{isMarked, noMarks, mark, gathered, gatheredFrom};
-ghost use Rattle.tally.specs.Gathered.{anyMileage, holds, holders, common, lowest, leads, firstPassing, majority};
+ghost use Rattle.tally.specs.Gathered.{anyMileage, hasValue, holders, common, lowest, leads, firstPassing, majority};
 ghost use Rattle.tally.specs.InnerGathered.{agrees};
 
 // The engines of the scope paper: B after B*-Consensus, R after R*-Consensus.
@@ -119,8 +119,8 @@ fn any_mileage(e: Estimate) -> bool
 }
 
 // Is it this mileage?
-pub fn holds(e: Estimate, v: u32) -> bool
-    ensures { λ r. ⌜ r ≡ holds v e ⌝ }
+pub fn has_value(e: Estimate, v: u32) -> bool
+    ensures { λ r. ⌜ r ≡ hasValue v e ⌝ }
 {
     match e {
         Estimate::Blank => false,
@@ -136,7 +136,7 @@ fn agrees(all: Estimate, e: Estimate) -> bool
     match all {
         Estimate::Blank => any_mileage(e),
         Estimate::Split => false,
-        Estimate::Mileage(v) => holds(e, v),
+        Estimate::Mileage(v) => has_value(e, v),
     }
 }
 
@@ -184,7 +184,7 @@ impl Tally {
             let at = s as usize;
             let c = self.cells[at];
             let e = c.estimate;
-            if is_marked(self.marks, s) & holds(e, v) {
+            if is_marked(self.marks, s) & has_value(e, v) {
                 found += 1;
             }
         }

@@ -6,6 +6,8 @@ use Rattle.image_codec.proofs.put_state.Tie as tie
 
 pub put-state-spec : {M : Type 1} → statement M
 unfolding inImage
-put-state-spec = tie.close (tie.spec (λ c κs. search needs) (λ c. search needs)
-    (λ c. rw (eq-eqb _ _ (c .before .before .before .before .if1 .taken)) (c .before .before .put-state-at .ensures))
-    (λ c. rw (ne-eqb _ _ (c .if1 .left))))
+put-state-spec = tie.close (tie.spec
+    (λ c. rw (ne-eqb _ _ (c .if1 .taken)))
+    (λ c κs. search needs)
+    (λ c. search needs)
+    (λ c. rw (eq-eqb _ _ (c .before .before .before .before .if1 .left)) (c .before .before .put-state-at .ensures)))

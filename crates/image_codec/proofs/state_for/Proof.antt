@@ -1,4 +1,4 @@
-use mathlib.Core.Path.{refl, sym, ap, _∙_}
+use mathlib.Core.Path.{refl, sym, _∙_}
 use Rattle.tally.specs.Limits.{today}
 use Rattle.formats.specs.Images.{imageOf, imageFormat, readImage}
 use Rattle.formats.specs.InnerImages.{fitState}

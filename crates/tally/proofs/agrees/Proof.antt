@@ -13,4 +13,4 @@ agrees-spec =
     (λ c κs. search needs)
     (λ c. search needs)
     (λ c. search needs)
-    (λ c. rw (c .before .before .all .given .1, c .holds .ensures)))
+    (λ c. rw (c .before .before .all .given .1, c .has-value .ensures)))

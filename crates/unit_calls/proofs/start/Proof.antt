@@ -7,7 +7,7 @@ use Rattle.consensus.specs.Conditions.{firstOf}
 use Rattle.consensus.specs.Step.{fresh}
 use Rattle.consensus.specs.Units.{atLog}
 use Rattle.calls.specs.Calls.{badSettings, startCallConditions, startCall}
-use Rattle.calls.proofs.Entries.{small, too-large, log-stored, image-stored, unit-sizes}
+use Rattle.calls.proofs.Entries.{small, settings-too-large, log-stored, image-stored, unit-sizes}
 use borrow.Author.Needs.{needs}
 use Rattle.unit_calls.proofs.start.Statement.{statement}
 use Rattle.unit_calls.proofs.start.Tie as tie
@@ -17,7 +17,7 @@ unfolding startCall startCallConditions firstOf cleared
 returns-2 c =
     rw (
       sym (c .before .before .before .before .wrong-lengths .ensures) ∙ c .before .before .before .if1 .left,
-      too-large _ _ _ _ (sym (c .before .before .settings-narrow .ensures) ∙ not-true _ (c .before .if2 .taken)),
+      settings-too-large _ _ _ _ (sym (c .before .before .settings-narrow .ensures) ∙ not-true _ (c .before .if2 .taken)),
       c .number2 .ensures,
     )
 

@@ -18,5 +18,5 @@ listing-line-spec =
       c .before .sent-shown .ensures,
       c .before .before .number .ensures,
       c .before .before .before .unit-shown .ensures,
-      c .before .before .before .before .letter-of .ensures,
+      c .before .before .before .before .event-letter .ensures,
     )))

@@ -1,20 +1,20 @@
 use mathlib.Core.Path.{_≡_}
 use borrow.Author.Needs.{needs}
 use borrow.Author.Tests.{lt-ltb, le-ltb}
-use Rattle.script.specs.declared.Pair.{Pair}
+use Rattle.script.specs.declared.PairRead.{PairRead}
 use Rattle.bench_script.proofs.events.pair_below.Statement.{statement}
 use Rattle.bench_script.proofs.events.pair_below.Tie as tie
 
 returns : tie.Need-returns
 returns c =
     let x = c .before .before .p .given .0 in
-    let e : c .before .before .before .before .args .p ≡ Pair.Are (x .0) (x .1 .0) = cc in
+    let e : c .before .before .before .before .args .p ≡ PairRead.Are (x .0) (x .1 .0) = cc in
     rw (e, lt-ltb _ _ (c .if1 .taken))
 
 returns-2 : tie.Need-returns-2
 returns-2 c =
     let x = c .before .before .p .given .0 in
-    let e : c .before .before .before .before .args .p ≡ Pair.Are (x .0) (x .1 .0) = cc in
+    let e : c .before .before .before .before .args .p ≡ PairRead.Are (x .0) (x .1 .0) = cc in
     rw (e, le-ltb _ _ (c .if1 .left))
 
 pub pair-below-spec : {M : Type 1} → statement M

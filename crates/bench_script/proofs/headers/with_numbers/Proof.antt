@@ -2,18 +2,18 @@ use mathlib.Core.Path.{_≡_}
 use mathlib.Core.Bool.{true, false}
 use borrow.Author.Needs.{needs}
 use Rattle.script.specs.Script.{inRanges}
-use Rattle.script.specs.declared.Pair.{Pair}
+use Rattle.script.specs.declared.PairRead.{PairRead}
 use Rattle.bench_script.proofs.headers.with_numbers.Statement.{statement}
 use Rattle.bench_script.proofs.headers.with_numbers.Tie as tie
 
-with-engine-requires : tie.Need-with-engine-requires
-with-engine-requires c κs = cc
+header-with-requires : tie.Need-header-with-requires
+header-with-requires c κs = cc
 
 returns : tie.Need-returns
 returns c =
     let d = c .before .before .before .before .before in
     let x = d .p .given .0 in
-    let e : d .before .before .before .args .p ≡ Pair.Are (x .0) (x .1 .0) = cc in
+    let e : d .before .before .before .args .p ≡ PairRead.Are (x .0) (x .1 .0) = cc in
     let t : inRanges (x .0) (x .1 .0) ≡ true = cc in
     rw (e, t) (cc)
 
@@ -21,7 +21,7 @@ returns-2 : tie.Need-returns-2
 returns-2 c =
     let d = c .before .before .before in
     let x = d .p .given .0 in
-    let e : d .before .before .before .args .p ≡ Pair.Are (x .0) (x .1 .0) = cc in
+    let e : d .before .before .before .args .p ≡ PairRead.Are (x .0) (x .1 .0) = cc in
     let t : inRanges (x .0) (x .1 .0) ≡ false = cc in
     rw (e, t)
 
@@ -32,7 +32,7 @@ with-numbers-spec =
     (λ c. search needs)
     (λ c κs. search needs)
     (λ c κs. search needs)
-    with-engine-requires
+    header-with-requires
     (λ c. search needs)
     returns
     returns-2

@@ -14,4 +14,4 @@ same-estimate-spec =
     (λ c κs. search needs)
     (λ c. search needs)
     (λ c. search needs)
-    (λ c. rw (c .before .before .a .given .1) (c .holds .ensures)))
+    (λ c. rw (c .before .before .a .given .1) (c .has-value .ensures)))

@@ -5,7 +5,7 @@ use mathlib.Core.Logic.{⊎-elim}
 use native.Mathlib.Omega.{arith}
 use borrow.Author.Needs.{needs}
 use Rattle.tally.specs.Limits.{senders}
-use Rattle.tally.specs.Gathered.{holds, holders}
+use Rattle.tally.specs.Gathered.{hasValue, holders}
 use Rattle.tally.specs.Count.{passing}
 use Rattle.tally.specs.Tally.{gathered, gatheredFrom}
 use Rattle.tally.proofs.Tallies.{rest, passing-step}
@@ -13,7 +13,7 @@ use Rattle.tally.proofs.Tally.holders.Statement.{statement}
 use Rattle.tally.proofs.Tally.holders.Tie as tie
 
 abbrev Inv-loop : tie.InvT-loop
-Inv-loop v self n₀ s₀ n s = (s ≤ senders) × ((n ≤ s) × (n + passing (holds v) (rest self s) ≡ holders v (gathered self)))
+Inv-loop v self n₀ s₀ n s = (s ≤ senders) × ((n ≤ s) × (n + passing (hasValue v) (rest self s) ≡ holders v (gathered self)))
 
 abbrev μ-loop : tie.MeasureT-loop
 μ-loop v self n₀ s₀ n s = senders - s
@@ -22,8 +22,8 @@ loop-again : tie.Need-loop-again Inv-loop μ-loop
 loop-again c =
     let d = c .before .before .before .before in
     let args = d .before .before .args in
-    let step = rw (← c .before .before .is-marked .ensures, ← c .before .holds .ensures) at
-    (passing-step (holds (args .v)) (args .t1) (d .before .loop .s) (d .loop-test .taken)) in (
+    let step = rw (← c .before .before .is-marked .ensures, ← c .before .has-value .ensures) at
+    (passing-step (hasValue (args .v)) (args .t1) (d .before .loop .s) (d .loop-test .taken)) in (
       omega arith,
       (
         ⊎-elim (λ w. omega arith) (λ w. omega arith) (c .if1 .came),

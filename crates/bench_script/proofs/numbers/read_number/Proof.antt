@@ -7,12 +7,12 @@ use borrow.Author.Tests.{le-leb, lt-leb, not-true, not-false}
 use lib.Dec.{leb}
 use lib.ListN.{length}
 use Rattle.script.specs.Numbers.{maxDigits, maxNumber, allDigits, leadingZero, valueFrom, isNumber, readNumber}
-use Rattle.script.specs.declared.Number.{Number}
-use Rattle.bench_script.proofs.numbers.number.Statement.{statement}
-use Rattle.bench_script.proofs.numbers.number.Tie as tie
+use Rattle.script.specs.declared.NumberRead.{NumberRead}
+use Rattle.bench_script.proofs.numbers.read_number.Statement.{statement}
+use Rattle.bench_script.proofs.numbers.read_number.Tie as tie
 
 by-value : (s : List ℕ) → 1 ≤ length s → length s ≤ maxDigits → allDigits s ≡ true → leadingZero s ≡ false
-    → readNumber s ≡ cond (leb (valueFrom 0 s) maxNumber) (Number.Is (valueFrom 0 s)) Number.Malformed
+    → readNumber s ≡ cond (leb (valueFrom 0 s) maxNumber) (NumberRead.Is (valueFrom 0 s)) NumberRead.Malformed
 unfolding isNumber readNumber
 by-value s some few d z = simp (le-leb 1 (length s) some, le-leb (length s) maxDigits few, d, z)
 
@@ -51,8 +51,8 @@ returns-6 c =
     let e : allDigits s ≡ true = cc (not-false (d .before .all-digits .result) (d .if3 .left)) in
     simp (by-value s (d .before .before .before .if1 .left) (d .before .before .if2 .left) e (cc), ← c .before .value .ensures, lt-leb _ _ (c .if5 .left))
 
-pub number-spec : {M : Type 1} → statement M
-number-spec =
+pub read-number-spec : {M : Type 1} → statement M
+read-number-spec =
     tie.close
     (tie.spec
     returns

@@ -8,7 +8,7 @@ use borrow.Author.Tests.{le-leb}
 use Rattle.tally.specs.Gathered.{anyMileage, allHold, common, firstPassing, lowest, majority, leads}
 use Rattle.tally.specs.Limits.{Limits, senders}
 use Rattle.tally.specs.Quorum.{majorityOf}
-use Rattle.tally.specs.Tally.{isMarked, placed, gatheredFrom, gathered}
+use Rattle.tally.specs.Tally.{isMarked, estimateAt, gatheredFrom, gathered}
 use Rattle.tally.specs.declared.Engine.{Engine}
 use Rattle.tally.specs.declared.Engine.the-variants.{B, R}
 use Rattle.tally.specs.declared.Estimate.{Estimate}
@@ -23,14 +23,14 @@ use Rattle.consensus.specs.Step.{decided, nextProposal}
 use Rattle.consensus.proofs.Parts.{Takes, Places, or-first}
 
 -- what holds of each marked place holds of each gathered
-module _ (P : Estimate → Type 0) (t : Tally) (marked : (s : ℕ) → s < senders → isMarked (t .marks) s ≡ true → P (placed t s)) where
+module _ (P : Estimate → Type 0) (t : Tally) (marked : (s : ℕ) → s < senders → isMarked (t .marks) s ≡ true → P (estimateAt t s)) where
   each-from : (s k : ℕ) → s + k ≤ senders → Each P (gatheredFrom t s k)
   unfolding gatheredFrom
   each-from s zero h = tt
   each-from s (suc k) h = go (isMarked (t .marks) s) refl (each-from (suc s) k (omega arith))
     where
       go : (b : Bool) → isMarked (t .marks) s ≡ b → Each P (gatheredFrom t (suc s) k)
-          → Each P (cond b (placed t s ∷ gatheredFrom t (suc s) k) (gatheredFrom t (suc s) k))
+          → Each P (cond b (estimateAt t s ∷ gatheredFrom t (suc s) k) (gatheredFrom t (suc s) k))
       go true e r = (marked s (omega arith) e, r)
       go false e r = r
 

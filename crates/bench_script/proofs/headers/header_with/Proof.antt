@@ -1,11 +1,11 @@
 use native.Mathlib.Omega.{arith}
 use borrow.Author.Needs.{needs}
 use Rattle.script.proofs.HeaderLines.{ranges}
-use Rattle.bench_script.proofs.headers.with_engine.Statement.{statement}
-use Rattle.bench_script.proofs.headers.with_engine.Tie as tie
+use Rattle.bench_script.proofs.headers.header_with.Statement.{statement}
+use Rattle.bench_script.proofs.headers.header_with.Tie as tie
 
-pub with-engine-spec : {M : Type 1} → statement M
-with-engine-spec =
+pub header-with-spec : {M : Type 1} → statement M
+header-with-spec =
     tie.close
     (tie.spec
     (λ c. search needs)

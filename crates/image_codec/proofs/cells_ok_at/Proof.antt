@@ -5,18 +5,18 @@ use native.Mathlib.Numerals.{add-one}
 use native.Mathlib.Omega.{arith}
 use borrow.Author.Needs.{needs}
 use Rattle.tally.specs.Limits.{today, senders}
-use Rattle.tally.specs.Tally.{isMarked, placed}
+use Rattle.tally.specs.Tally.{isMarked, estimateAt}
 use Rattle.contents.specs.Estimates.{isBlank}
-use Rattle.contents.specs.Images.{every, placeOk, placesOk}
+use Rattle.contents.specs.Images.{every, cellOk, cellsOk}
 use Rattle.formats.specs.InnerImages.{tallyAt}
 use Rattle.formats.proofs.Marked.{blank-places}
-use Rattle.formats.proofs.Places.{placed-at}
-use Rattle.image_codec.proofs.places_at.Statement.{statement}
-use Rattle.image_codec.proofs.places_at.Tie as tie
+use Rattle.formats.proofs.Places.{estimate-at}
+use Rattle.image_codec.proofs.cells_ok_at.Statement.{statement}
+use Rattle.image_codec.proofs.cells_ok_at.Tie as tie
 
 abbrev Inv-loop : tie.InvT-loop
 Inv-loop s at split n marks from₀ ok₀ k₀ from ok k = (k ≤ senders) × ((from ≡ at + 2 + 4 * k) ×
-    (ok ≡ every k (λ u. placeOk today split n u (isMarked (tallyAt at s .marks) u) (placed (tallyAt at s) u))))
+    (ok ≡ every k (λ u. cellOk today split n u (isMarked (tallyAt at s .marks) u) (estimateAt (tallyAt at s) u))))
 
 abbrev μ-loop : tie.MeasureT-loop
 μ-loop s at split n marks from₀ ok₀ k₀ from ok k = senders - k
@@ -27,7 +27,7 @@ returns c =
     let args = b .before .before .args in
     c .blanks-at .ensures
     ∙ blank-places today (args .split) (args .n) (tallyAt (args .at) (args .s .now)) _ (sym (b .be16 .ensures) ∙ c .before .if1 .taken)
-    (λ u h. ap isBlank (sym (placed-at (args .at) u (args .s .now) h)))
+    (λ u h. ap isBlank (sym (estimate-at (args .at) u (args .s .now) h)))
 
 loop-again : tie.Need-loop-again Inv-loop μ-loop
 unfolding every
@@ -35,23 +35,23 @@ loop-again c =
     let l = c .before .before .before in
     let b = l .before .before in
     let args = b .before .before .args in
-    let e = placed-at (args .at) (l .loop .k) (args .s .now) (search needs) in (
+    let e = estimate-at (args .at) (l .loop .k) (args .s .now) (search needs) in (
       omega arith,
       (
         omega arith,
-        rw (add-one, e, ← l .loop .inv .1 .0, c .place-at .ensures, c .before .is-marked .ensures, b .be16 .ensures, l .loop .inv .1 .1),
+        rw (add-one, e, ← l .loop .inv .1 .0, c .cell-ok-at .ensures, c .before .is-marked .ensures, b .be16 .ensures, l .loop .inv .1 .1),
       ),
     )
 
 returns-2 : tie.Need-returns-2 Inv-loop μ-loop
-unfolding placesOk
+unfolding cellsOk
 returns-2 c =
     let e : c .before .loop .k ≡ senders = omega arith in
     rw e at (c .before .loop .inv .1 .1)
 
-pub places-at-spec : {M : Type 1} → statement M
+pub cells-ok-at-spec : {M : Type 1} → statement M
 unfolding every
-places-at-spec =
+cells-ok-at-spec =
     tie.close
     (tie.spec
     Inv-loop
