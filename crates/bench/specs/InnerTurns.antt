@@ -1,4 +1,4 @@
--- What inner functions promise, and no public contract says: a listing line by line. Assumes nothing.
+-- What inner functions promise, of which no public call's contract speaks: a listing line by line. Assumes nothing.
 use Prim.Native.Nat.{ℕ, _+_, _≤_, _<_}
 use mathlib.Core.Path.{_≡_}
 use mathlib.Core.List.{List, _∷_, _++_}

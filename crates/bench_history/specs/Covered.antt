@@ -73,7 +73,7 @@ pub record Covered (l : Limits) (h : Header) (es : List ScriptEvent) : Type 0 wh
   -- a refused line changes nothing
   pub refused-stays : EachLine es (λ before e.
       (numberOf (answer l (reached l h before) e .refusal) ≡ 0 → ⊥) → Unchanged (reached l h before) (answer l (reached l h before) e))
-  -- a line for each line; as many messages kept as lines that sent one, and their numbers are 0, 1, 2 and so on
+  -- as many lines are played as the script has; as many messages kept as lines that sent one, and their numbers are 0, 1, 2 and so on
   pub as-many : length (playedLines l h es) ≡ length es
   pub kept : reached l h es .kept ≡ length (sentNumbers (playedLines l h es))
   pub numbers : sentNumbers (playedLines l h es) ≡ rising 0 (reached l h es .kept)

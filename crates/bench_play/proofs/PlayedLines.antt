@@ -144,7 +144,7 @@ line-played l b (e ∷ es) p h = go (List·Memᴰ·cases-cons h) (line-played l 
 
 -- ---- counts
 
--- the lines and the lines are as many
+-- as many lines are played as the script has
 pub as-many : (l : Limits) (b : Bench) (es : List ScriptEvent) → length (play l b es) ≡ length es
 unfolding play
 as-many l b [] = refl

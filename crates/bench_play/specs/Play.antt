@@ -1,4 +1,4 @@
--- Playing events on the bench: each is a call of `consensus` on one unit. Assumes nothing.
+-- Playing events on the bench: each runs a method of one unit. Assumes nothing.
 use Prim.Native.Nat.{ℕ}
 use mathlib.Core.Bool.{not, cond}
 use mathlib.Core.List.{List, [], _∷_}

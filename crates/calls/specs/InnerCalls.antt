@@ -1,4 +1,4 @@
--- What inner functions of unit_calls promise, and no public contract says. Assumes nothing.
+-- What inner functions of unit_calls promise, of which no public call's contract speaks. Assumes nothing.
 use Prim.Native.Nat.{ℕ, _^_}
 use mathlib.Core.Bool.{Bool, cond, _&&_}
 use mathlib.Core.List.{List, []}

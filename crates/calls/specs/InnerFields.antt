@@ -1,4 +1,4 @@
--- What inner functions of fields promise, and no public contract says. Assumes nothing.
+-- What inner functions of fields promise, of which no public call's contract speaks. Assumes nothing.
 use Prim.Native.Nat.{ℕ, suc, _-_, _^_}
 use mathlib.Core.Bool.{Bool, true, _&&_}
 use mathlib.Core.List.{List, [], _∷_}

@@ -1,4 +1,4 @@
--- What inner functions promise, and no public contract says. Assumes nothing.
+-- What inner functions promise, of which no public call's contract speaks. Assumes nothing.
 use mathlib.Core.List.{[], _∷_}
 use Rattle.tally.specs.Limits.{Limits}
 use Rattle.tally.specs.declared.Refusal.{Refusal}

@@ -1,4 +1,4 @@
--- What inner functions promise: the public calls answer otherwise, and these are laws' business. Assumes nothing.
+-- What inner functions promise, of which no public call's contract speaks. Assumes nothing.
 use Prim.Native.Nat.{ℕ}
 use mathlib.Core.Bool.{cond}
 use mathlib.Core.List.{List}

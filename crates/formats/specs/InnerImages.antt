@@ -1,4 +1,4 @@
--- What inner functions promise, and no public contract says. Assumes nothing.
+-- What inner functions promise, of which no public call's contract speaks. Assumes nothing.
 use Prim.Native.Nat.{ℕ, zero, suc, _+_}
 use mathlib.Core.Bool.{Bool, cond, _&&_}
 use lib.Dec.{eqb}
@@ -38,7 +38,7 @@ unfoldable pub heldFrom : Tally → ℕ → ℕ → List Cell
 heldFrom t s zero = []
 heldFrom t s (suc k) = record { estimate = held t s } ∷ heldFrom t (suc s) k
 
--- a tally with every unmarked place blank; a well-formed one is so already
+-- a tally with every unmarked cell blank; a well-formed one is so already
 abbrev pub asMarked : Tally → Tally
 asMarked t = record { marks = t .marks; cells = heldFrom t 0 senders }
 

@@ -66,7 +66,7 @@ pub fn store_unmarked(log: Log, out: &mut [u8])
     }
 }
 
-// ---- the test, in place: only marked places are decoded
+// ---- the test, in place: only marked cells are decoded
 fn is_blank_at(s: &[u8], at: usize) -> bool
     requires { ⌜ at + 4 ≤ length (now s) ⌝ }
     ensures { λ r. ⌜ r ≡ isBlank (estimateOf (numAt (now (s .entry)) at 4)) ⌝ }
@@ -74,7 +74,7 @@ fn is_blank_at(s: &[u8], at: usize) -> bool
     big_endian::be32(s, at) == limits::BLANK
 }
 
-// Are all sixteen places blank?
+// Are all sixteen cells blank?
 fn blanks_at(s: &[u8], at: usize) -> bool
     requires { ⌜ at + total cellWidths ≤ length (now s) ⌝ }
     ensures { λ r. ⌜ r ≡ every senders (λ u. isBlank (estimateOf (numAt (now (s .entry)) (at + 4 * u) 4))) ⌝ }
@@ -174,7 +174,7 @@ pub fn state_for(s: &[u8], log: Log) -> StateRead
     }
 }
 
-// ---- the tallies, read and written: an unmarked place is blank, whatever stands there
+// ---- the tallies, read and written: an unmarked cell is blank, whatever stands there
 fn held_at(s: &[u8], at: usize, marked: bool) -> Estimate
     requires { ⌜ at + 4 ≤ length (now s) ⌝ }
     ensures { λ r. ⌜ r ≡ cond marked (estimateOf (numAt (now (s .entry)) at 4)) Blank ⌝ }

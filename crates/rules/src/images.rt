@@ -8,7 +8,7 @@ ghost use mathlib.Core.Path.{_≡_};
 ghost use Rattle.tally.specs.Limits.{today};
 ghost use Rattle.contents.specs.Images.{cellOk, checksAllowed, sameSettings, stateFits};
 
-// A sender's mark, and the estimate in its place; `split` says whether a marked one may be split.
+// A sender's mark, and the estimate in its cell; `split` says whether a marked one may be split.
 pub fn cell_ok(split: bool, n: u8, sender: u8, marked: bool, e: Estimate) -> bool
     ensures { λ r. ⌜ r ≡ cellOk today split n sender marked e ⌝ }
 {

@@ -1,4 +1,4 @@
--- What inner functions promise, and no public contract says. Assumes nothing.
+-- What inner functions promise, of which no public call's contract speaks. Assumes nothing.
 use mathlib.Core.Bool.{Bool, false}
 use Rattle.tally.specs.declared.Estimate.{Estimate}
 use Rattle.tally.specs.declared.Estimate.the-variants.{Blank, Split, Mileage}

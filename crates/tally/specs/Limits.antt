@@ -1,5 +1,5 @@
--- Every limit and code of the scope paper, once; `src/limits.rt` has them for the code. Letters are in codec's `Codes`, the numbers of
--- refusals in `Refusal`; the script's letters and the bound of its numbers are in bench_script. Assumes nothing.
+-- Every limit and code of the scope paper, once; `src/limits.rt` has them for the code. Letters are in crate formats, `Codes`, the
+-- numbers of refusals in `Refusal`; the script's letters and the bound of its numbers are in crate script. Assumes nothing.
 use Prim.Native.Nat.{ℕ, _+_, _^_, _<_}
 
 -- what later versions of the core may set otherwise

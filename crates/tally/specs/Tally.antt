@@ -24,7 +24,7 @@ isMarked marks s = eqb (marks / 2 ^ s % 2) 1
 abbrev pub blankCell : Cell
 blankCell = record { estimate = Blank }
 
--- the estimate in a sender's place
+-- the estimate in a sender's cell
 abbrev pub estimateAt : Tally → ℕ → Estimate
 estimateAt t s = getD (t .cells) s blankCell .estimate
 
@@ -32,7 +32,7 @@ estimateAt t s = getD (t .cells) s blankCell .estimate
 unfoldable pub held : Tally → ℕ → Estimate
 held t s = cond (isMarked (t .marks) s) (estimateAt t s) Blank
 
--- no sender is marked, and every place is blank
+-- no sender is marked, and every cell is blank
 unfoldable pub noMarks : Tally
 noMarks = record { marks = 0; cells = replicate senders blankCell }
 
