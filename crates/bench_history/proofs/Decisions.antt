@@ -18,8 +18,8 @@ use Rattle.bench_play.specs.Bench.{start}
 use Rattle.bench_play.specs.Play.{Played, answer, play, benchAfter}
 use Rattle.bench_play.specs.declared.Bench.{Bench}
 use Rattle.bench_history.specs.Covered.{ProposedIn}
-use Rattle.bench_history.specs.History.{setupOf, Below, lineAccepted, ofAccepted, contentsEvent, eventProposals, proposals, ShownDecision, decidedOf, decisions}
-use Rattle.bench_history.specs.History.{withoutRound, Shows, contentsAfter}
+use Rattle.bench_history.specs.History.{setupOf, Below, lineAccepted, ofAccepted, contentsEvent, eventProposals, proposals}
+use Rattle.bench_history.specs.History.{ShownDecision, decidedOf, decisions, withoutRound, Shows, contentsAfter}
 use Rattle.bench_history.proofs.Lists.{flat-in, flat-from}
 use Rattle.bench_play.proofs.PlayedLines.{played, reached-sized}
 use Rattle.bench_history.proofs.Lines.{below-parts}

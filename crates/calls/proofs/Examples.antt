@@ -207,6 +207,13 @@ ofFive round p = log B 5 0 round (mileage p) blank blank
 abbrev unit3R : ℕ → ℕ → List ℕ
 unit3R round p = log R 4 3 round (mileage p) blank blank
 
+-- proposing to a fresh unit, beside an image with these tallies; delivering to it
+abbrev beside : List ℕ → List ℕ → UnitCall
+beside checks seconds = propose freshB (image freshB checks seconds) 5 (junk 18)
+
+abbrev toFresh : List ℕ → UnitCall
+toFresh message = deliverTo freshB message
+
 abbrev cases : List Case
 cases =
     -- the cases that the scope paper marks [p]: its table of quorums
@@ -239,37 +246,64 @@ cases =
     ∷ refused 1 [] (keyOn freshB (junk 151))
     ∷ refused 1 [] (start B 3 0 7 (junk 21) (junk 152))
     ∷ refused 1 [] (start B 3 0 7 (junk 20) (junk 153))
-    -- 2: n = 2, as a setting and in a log; engine letter Z, unit 3 of 3, entry 0, entry 10,000; in R a log with a second estimate
+    -- 2: n = 2, as a setting and in a log; engine letter Z, unit 3 of 3, entry 0, entry 10,000; in R a log with a second estimate; a split
+    -- proposal, a split first estimate, a mileage out of range, round 10,000, a zero byte that is 1
     ∷ refused 2 [] (start B 2 0 7 (junk 20) (junk 152))
     ∷ refused 2 [] (start Z 3 0 7 (junk 20) (junk 152))
     ∷ refused 2 [] (start B 3 3 7 (junk 20) (junk 152))
     ∷ refused 2 [] (start B 3 0 0 (junk 20) (junk 152))
     ∷ refused 2 [] (start B 3 0 10000 (junk 20) (junk 152))
     ∷ refused 2 [] (keyOn (log R 4 0 0 blank blank (mileage 5)) (junk 152))
+    ∷ refused 2 [] (keyOn (unitB 0 split blank blank) (junk 152))
+    ∷ refused 2 [] (keyOn (unitB 0 blank split blank) (junk 152))
+    ∷ refused 2 [] (keyOn (unitB 0 (mileage 10000000) blank blank) (junk 152))
+    ∷ refused 2 [] (keyOn (unitB 10000 blank blank blank) (junk 152))
+    ∷ refused 2 [] (keyOn (take 3 freshB ++ (1 ∷ drop 4 freshB)) (junk 152))
     ∷ refused 2 [] (keyOn bad (junk 152))
     ∷ refused 2 zeros (proposeTo bad 5)
     ∷ refused 2 zeros (deliverTo bad first)
-    -- 3: log at round 4, image at 3; an estimate that does not fit, at the log's round and above it; an image with a quorum of marks, with a CHECK
-    -- mark beside a second estimate, and with one in R
+    -- 3: log at round 4, image at 3; an estimate that does not fit, at the log's round and above it; another unit's image; an image with a quorum
+    -- of marks, with a CHECK mark beside a second estimate, and with one in R; a split CHECK, a split SECOND in R; a marked blank, an unmarked
+    -- mileage; unit 3 of 3 marked
     ∷ refused 3 zeros (deliver (sixB 4) (unmarked (sixB 3)) first (junk 18))
     ∷ refused 3 zeros (propose freshB (unmarked (unitB 0 blank (mileage 5) blank)) 5 (junk 18))
     ∷ refused 3 zeros (propose freshB (unmarked (unitB 1 blank (mileage 5) blank)) 5 (junk 18))
     ∷ refused 3 zeros (propose freshB (unmarked (unitB 1 blank blank split)) 5 (junk 18))
-    ∷ refused 3 zeros (propose freshB (image freshB (tally 0 []) (tally 3 (mileage 5 ++ mileage 5))) 5 (junk 18))
+    ∷ refused 3 zeros (propose freshB (unmarked (log B 3 1 0 blank blank blank)) 5 (junk 18))
+    ∷ refused 3 zeros (beside (tally 0 []) (tally 3 (mileage 5 ++ mileage 5)))
     ∷ refused 3 zeros (propose (unitB 0 blank blank split) (image (unitB 0 blank blank split) (tally 1 (mileage 5)) (tally 0 [])) 5 (junk 18))
     ∷ refused 3 zeros (propose sixR (image sixR (tally 1 (mileage 5)) (tally 0 [])) 5 (junk 18))
-    -- 4: kind letter Z; the empty message; F, C and S to a single unit; K to everyone; K with an estimate; F and C with two mileages; C in R
-    ∷ refused 4 zeros (deliverTo freshB (inB Z 1 0 (mileage 5) (mileage 5)))
-    ∷ refused 4 zeros (deliverTo freshB zeros)
-    ∷ refused 4 zeros (deliverTo freshB (toOne F 0 0 (mileage 5) (mileage 5)))
-    ∷ refused 4 zeros (deliverTo freshB (toOne C 0 0 (mileage 5) (mileage 5)))
-    ∷ refused 4 zeros (deliverTo freshB (toOne S 0 0 (mileage 5) blank))
-    ∷ refused 4 zeros (deliverTo freshB (toOne K 255 4 blank blank))
-    ∷ refused 4 zeros (deliverTo freshB (toOne K 0 4 (mileage 6) (mileage 6)))
-    ∷ refused 4 zeros (deliverTo freshB (inB F 1 0 (mileage 5) (mileage 6)))
-    ∷ refused 4 zeros (deliverTo freshB (inB C 1 0 (mileage 5) (mileage 6)))
+    ∷ refused 3 zeros (beside (tally 1 split) (tally 0 []))
+    ∷ refused 3 zeros (propose sixR (image sixR (tally 0 []) (tally 1 split)) 5 (junk 18))
+    ∷ refused 3 zeros (beside (tally 1 blank) (tally 0 []))
+    ∷ refused 3 zeros (beside (tally 0 []) (tally 0 (mileage 5)))
+    ∷ refused 3 zeros (beside (tally 0 []) (tally 8 (blank ++ (blank ++ (blank ++ mileage 5)))))
+    -- 4: kind letter Z; the empty message; F, C and S to a single unit; K to everyone, and to unit 3 of 3; K with an estimate; F and C with two
+    -- mileages, F with blanks; C in R; S with a blank, and in R with a split estimate; S and K with a split proposal; sender 3 of 3, round
+    -- 10,000, a zero byte that is 1
+    ∷ refused 4 zeros (toFresh (inB Z 1 0 (mileage 5) (mileage 5)))
+    ∷ refused 4 zeros (toFresh zeros)
+    ∷ refused 4 zeros (toFresh (toOne F 0 0 (mileage 5) (mileage 5)))
+    ∷ refused 4 zeros (toFresh (toOne C 0 0 (mileage 5) (mileage 5)))
+    ∷ refused 4 zeros (toFresh (toOne S 0 0 (mileage 5) blank))
+    ∷ refused 4 zeros (toFresh (toOne K 255 4 blank blank))
+    ∷ refused 4 zeros (toFresh (toOne K 0 4 (mileage 6) (mileage 6)))
+    ∷ refused 4 zeros (toFresh (inB F 1 0 (mileage 5) (mileage 6)))
+    ∷ refused 4 zeros (toFresh (inB C 1 0 (mileage 5) (mileage 6)))
+    ∷ refused 4 zeros (toFresh (toOne K 3 4 blank blank))
+    ∷ refused 4 zeros (toFresh (inB F 1 0 blank blank))
     ∷ refused 4 zeros (deliverTo sixR (inR C 1 (mileage 5) (mileage 5)))
-    -- 5: K for unit 1, handed to 2
+    ∷ refused 4 zeros (toFresh (inB S 1 0 blank blank))
+    ∷ refused 4 zeros (deliverTo sixR (inR S 1 split blank))
+    ∷ refused 4 zeros (toFresh (inB S 1 0 (mileage 5) split))
+    ∷ refused 4 zeros (toFresh (toOne K 0 4 blank split))
+    ∷ refused 4 zeros (toFresh (inB F 3 0 (mileage 5) (mileage 5)))
+    ∷ refused 4 zeros (toFresh (inB F 1 10000 (mileage 5) (mileage 5)))
+    ∷ refused 4 zeros (toFresh (take 5 first ++ (1 ∷ drop 6 first)))
+    -- 5: another engine, n and entry; K for unit 1, handed to 2
+    ∷ refused 5 zeros (toFresh (message F R 3 1 255 0 (mileage 5) (mileage 5)))
+    ∷ refused 5 zeros (toFresh (message F B 4 1 255 0 (mileage 5) (mileage 5)))
+    ∷ refused 5 zeros (toFresh (take 7 first ++ (8 ∷ drop 8 first)))
     ∷ refused 5 zeros (deliverTo (log B 3 2 0 blank blank blank) (message K B 3 0 1 4 blank blank))
     -- 7: n = 3, B, round 9,999, one SECOND there, another comes; the SECOND of the marked sender again is accepted
     ∷ refused 7 zeros (deliver ending oneThere (inB S 2 9999 (mileage 5) blank) (junk 18))

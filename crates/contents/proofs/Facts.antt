@@ -14,7 +14,8 @@ use Rattle.tally.specs.declared.Engine.the-variants.{B, R}
 use Rattle.tally.specs.declared.Estimate.{Estimate}
 use Rattle.tally.specs.declared.Estimate.the-variants.{Blank, Split, Mileage}
 use Rattle.tally.specs.declared.Tally.{Tally}
-use Rattle.contents.specs.Estimates.{isB, isBlank, isSplit, isMileage, inRange, mileageOrBlank, mileageOrSplit, secondEstimateOk, sameEstimate, sameMileage}
+use Rattle.contents.specs.Estimates.{isB, isBlank, isSplit, isMileage, inRange, mileageOrBlank, mileageOrSplit, secondEstimateOk, sameEstimate}
+use Rattle.contents.specs.Estimates.{sameMileage}
 use Rattle.contents.specs.Images.{imageLog, belowOk, unmarkedOk, markedOk, cellOk, cellsOk, tallyOk, checksAllowed, imageOk}
 use Rattle.contents.specs.Logs.{numbersOk, roundOk, settingsOk, stateOk, logOk}
 use Rattle.contents.specs.Messages.{firstOk, checkOk, secondOk, skipOk, kindOk, messageOk}

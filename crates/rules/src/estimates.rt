@@ -4,8 +4,8 @@ use tally::Estimate;
 use tally::limits;
 ghost use mathlib.Core.Path.{_≡_};
 ghost use Rattle.tally.specs.Limits.{today};
-ghost use Rattle.contents.specs.Estimates.{inRange, isB, isBlank, isSplit, isMileage, mileageOrBlank, mileageOrSplit, secondEstimateOk, sameMileage, sameEngine};
-ghost use Rattle.contents.specs.Estimates.{sameEstimate};
+ghost use Rattle.contents.specs.Estimates.{inRange, isB, isBlank, isSplit, isMileage, mileageOrBlank, mileageOrSplit, secondEstimateOk};
+ghost use Rattle.contents.specs.Estimates.{sameMileage, sameEngine, sameEstimate};
 
 pub fn is_b(e: Engine) -> bool
     ensures { λ r. ⌜ r ≡ isB e ⌝ }

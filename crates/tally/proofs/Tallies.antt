@@ -49,7 +49,8 @@ module _ (P : Estimate → Bool) (t : Tally) (s : ℕ) (below : s < senders) whe
   unfolding firstPassing
   first-step = ap (firstPassing P) (rest-step t s below) ∙ go (isMarked (t .marks) s) (rest t (s + 1))
     where
-      go : (b : Bool) (es : List Estimate) → firstPassing P (cond b (estimateAt t s ∷ es) es) ≡ cond (b && P (estimateAt t s)) (estimateAt t s) (firstPassing P es)
+      go : (b : Bool) (es : List Estimate) → firstPassing P (cond b (estimateAt t s ∷ es) es)
+          ≡ cond (b && P (estimateAt t s)) (estimateAt t s) (firstPassing P es)
       go true es = refl
       go false es = refl
 
