@@ -24,7 +24,7 @@ pub fn read_log(log: &[u8], fields: &mut [u32]) -> u32
     if fields.len() != limits::LOG_FIELDS {
         return tally::number(Refusal::Length);
     }
-    match codec::logs::read_log(log) {
+    match log_codec::read_log(log) {
         LogRead::Read(l) => {
             numbers::put_log(l, fields);
             tally::number(Refusal::None)
@@ -47,7 +47,7 @@ pub fn write_log(fields: &[u32], log: &mut [u8]) -> u32
         return tally::number(Refusal::Log);
     }
     match codes::engine_of(fields[0] as u8) {
-        EngineRead::Is(e) => tally::number(codec::logs::write_log(numbers::log_of(e, fields), log)),
+        EngineRead::Is(e) => tally::number(log_codec::write_log(numbers::log_of(e, fields), log)),
         EngineRead::Unknown => tally::number(Refusal::Log),
     }
 }
@@ -59,7 +59,7 @@ pub fn read_message(message: &[u8], fields: &mut [u32]) -> u32
     if fields.len() != limits::MESSAGE_FIELDS {
         return tally::number(Refusal::Length);
     }
-    match codec::messages::read_message(message) {
+    match message_codec::read_message(message) {
         MessageRead::Read(m) => {
             numbers::put_message(m, fields);
             tally::number(Refusal::None)
@@ -72,7 +72,7 @@ pub fn read_message(message: &[u8], fields: &mut [u32]) -> u32
 fn refuse(why: Refusal, message: &mut [u8]) -> u32
     ensures { λ r. ⌜ wrote r (now (message .exit)) ≡ wrote (numberOf why) (cleared today (now (message .entry))) ⌝ }
 {
-    codec::messages::clear(message);
+    message_codec::clear(message);
     tally::number(why)
 }
 
@@ -84,7 +84,7 @@ fn write_known(kind: KindRead, engine: EngineRead, fields: &[u32], message: &mut
 {
     match kind {
         KindRead::Is(k) => match engine {
-            EngineRead::Is(e) => tally::number(codec::messages::write_message(
+            EngineRead::Is(e) => tally::number(message_codec::write_message(
                 numbers::message_of(k, e, fields),
                 message,
             )),

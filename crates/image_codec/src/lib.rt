@@ -60,7 +60,7 @@ pub fn store_unmarked(log: Log, out: &mut [u8])
     ensures { λ _. ⌜ now (out .exit) ≡ stored (imageFormat today) (withTallies log noMarks noMarks) (now (out .entry)) ⌝ }
 {
     if out.len() == limits::IMAGE_SIZE {
-        codec::logs::put_log(log, out);
+        log_codec::put_log(log, out);
         put_no_marks(out, AT_CHECKS);
         put_no_marks(out, AT_SECONDS);
     }
@@ -162,10 +162,10 @@ pub fn state_for(s: &[u8], log: Log) -> StateRead
     if s.len() != limits::IMAGE_SIZE {
         return StateRead::Unfit;
     }
-    let EngineRead::Is(e) = codec::logs::engine_at(s) else {
+    let EngineRead::Is(e) = log_codec::engine_at(s) else {
         return StateRead::Unfit;
     };
-    let front = codec::logs::log_at(e, s);
+    let front = log_codec::log_at(e, s);
     let state = front.state;
     if fits_at(s, front, log) {
         StateRead::Fits(state)
@@ -287,7 +287,7 @@ pub fn put_state(s: State, out: &mut [u8])
     if out.len() != limits::IMAGE_SIZE {
         return;
     }
-    codec::logs::put_state_at(s, out);
+    log_codec::put_state_at(s, out);
 }
 
 // Stores a state in an image, and of the tallies those that it does not have already; a buffer of another length keeps its bytes.
@@ -295,8 +295,8 @@ pub fn put_image(s: State, checks: Tally, seconds: Tally, out: &mut [u8])
     ensures { λ _. ⌜ now (out .exit) ≡ inImage (imageOver s checks seconds) (now (out .entry)) ⌝ }
 {
     if out.len() == limits::IMAGE_SIZE {
-        let same = s.round == codec::logs::round_at(out);
-        codec::logs::put_state_at(s, out);
+        let same = s.round == log_codec::round_at(out);
+        log_codec::put_state_at(s, out);
         put_changed(checks, same, out, AT_CHECKS);
         put_changed(seconds, same, out, AT_SECONDS);
     }

@@ -30,7 +30,7 @@ fn put_message(m: Message, out: &mut [u8])
     if rules::messages::is_empty(kind) {
         return;
     }
-    codec::messages::store_message(m, out);
+    message_codec::store_message(m, out);
 }
 
 // Stores what a proposal answers, unless it refuses: no log, and of the image its state alone.
@@ -64,7 +64,7 @@ pub(crate) fn put_answer(
         let decided = a.decision;
         *decision = codes::code_of(decided);
         put_message(a.message, out);
-        codec::logs::store_log(a.unit.log(), log);
+        log_codec::store_log(a.unit.log(), log);
         image_codec::put_image(a.unit.current, a.unit.checks, a.unit.seconds, image);
     }
     number

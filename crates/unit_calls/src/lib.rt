@@ -38,7 +38,7 @@ pub fn start(engine: u32, n: u32, unit: u32, entry: u32, log: &mut [u8], image: 
         return tally::number(Refusal::Log);
     }
     let l = Unit::fresh(settings).log();
-    codec::logs::store_log(l, log);
+    log_codec::store_log(l, log);
     image_codec::store_unmarked(l, image);
     tally::number(Refusal::None)
 }
@@ -50,7 +50,7 @@ pub fn key_on(log: &[u8], image: &mut [u8]) -> u32
     if buffers::wrong_lengths(log, image) {
         return tally::number(Refusal::Length);
     }
-    let LogRead::Read(l) = codec::logs::read_log(log) else {
+    let LogRead::Read(l) = log_codec::read_log(log) else {
         return tally::number(Refusal::Log);
     };
     image_codec::store_unmarked(l, image);
@@ -63,11 +63,11 @@ pub fn propose(log: &[u8], image: &mut [u8], mileage: u32, out: &mut [u8]) -> u3
         ≡ proposeCall today (now (log .entry)) (now (image .entry)) mileage (now (out .entry)) ⌝ }
 {
     let wrong = buffers::wrong_lengths(log, image) | (out.len() != limits::MESSAGE_SIZE);
-    codec::messages::clear(out);
+    message_codec::clear(out);
     if wrong {
         return tally::number(Refusal::Length);
     }
-    let LogRead::Read(l) = codec::logs::read_log(log) else {
+    let LogRead::Read(l) = log_codec::read_log(log) else {
         return tally::number(Refusal::Log);
     };
     let StateRead::Fits(state) = image_codec::state_for(image, l) else {
@@ -97,17 +97,17 @@ pub fn deliver(
     let wrong = buffers::wrong_lengths(log, image)
         | (message.len() != limits::MESSAGE_SIZE)
         | (out.len() != limits::MESSAGE_SIZE);
-    codec::messages::clear(out);
+    message_codec::clear(out);
     if wrong {
         return tally::number(Refusal::Length);
     }
-    let LogRead::Read(l) = codec::logs::read_log(log) else {
+    let LogRead::Read(l) = log_codec::read_log(log) else {
         return tally::number(Refusal::Log);
     };
     let StateRead::Fits(state) = image_codec::state_for(image, l) else {
         return tally::number(Refusal::Image);
     };
-    let MessageRead::Read(m) = codec::messages::read_message(message) else {
+    let MessageRead::Read(m) = message_codec::read_message(message) else {
         return tally::number(Refusal::Message);
     };
     let u = Unit::up(
