@@ -221,10 +221,10 @@ module _ (i : Image) (t : TypedImage i) (ok : imageOk today i ≡ true) where
 
 -- ---- a change is made to a buffer of an image's length, and to no other
 
-pub in-image : (change : List ℕ → List ℕ) (bs : List ℕ) → length bs ≡ imageSize today → inImage change bs ≡ change bs
-unfolding inImage
-in-image change bs e = rw (eq-eqb (length bs) (imageSize today) e)
-
 pub in-image-other : (change : List ℕ → List ℕ) (bs : List ℕ) → (length bs ≡ imageSize today → ⊥) → inImage change bs ≡ bs
 unfolding inImage
 in-image-other change bs n = rw (ne-eqb (length bs) (imageSize today) n)
+
+pub in-image : (change : List ℕ → List ℕ) (bs : List ℕ) → length bs ≡ imageSize today → inImage change bs ≡ change bs
+unfolding inImage
+in-image change bs e = rw (eq-eqb (length bs) (imageSize today) e)
