@@ -1,4 +1,5 @@
-// What reading a letter, a log, a message or an image finds. How they are laid out is in specs/; crates codes, log_codec, message_codec and image_codec read and write them.
+// What reading a letter, a log, a message or an image finds. How they are laid out is in specs/; crates codes, log_codec, message_codec and
+// image_codec read and write them.
 use contents::Kind;
 use contents::Log;
 use contents::Message;
