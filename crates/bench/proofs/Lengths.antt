@@ -17,16 +17,15 @@ use Rattle.script.specs.declared.Header.{Header}
 use Rattle.script.proofs.EventLines.{short-line}
 use Rattle.script.proofs.HeaderLines.{ranges}
 use Rattle.script.proofs.Parting.{Some, parted-some}
-use Rattle.bench_play.specs.Bench.{start}
+use Rattle.bench_play.specs.Bench.{LineAnswer, start}
 use Rattle.bench_play.specs.Play.{answer, play, benchAfter}
 use Rattle.bench_play.specs.declared.Bench.{Bench}
-use Rattle.bench_play.specs.declared.LineAnswer.{LineAnswer}
 use Rattle.bench_play.proofs.PlayedLines.{reached-sized}
 use Rattle.bench_text.specs.Text.{decimal, shownText, fieldText, fieldsText, headerText, lineFields, lineText, endText}
 use Rattle.bench_text.specs.declared.ListingLine.{ListingLine}
 use Rattle.bench_text.specs.declared.Shown.{Shown}
 use Rattle.bench_text.proofs.Digits.{digits-most, digits-short}
-use Rattle.bench.specs.Listing.{lineOf, linesText, headerLine, malformedLine, malformedText}
+use Rattle.bench.specs.Listing.{lineOf, lineWith, linesText, headerLine, malformedLine, malformedText}
 use Rattle.bench.specs.InnerTurns.{eventsFrom, restText}
 use Rattle.bench.specs.Widths.{indexWidth, keptWidth, headerWidth, malformedWidth, endWidth, maxListing}
 use Rattle.bench.proofs.Rest.{malformed-line}
@@ -103,7 +102,7 @@ module _ (i : ℕ) (small : i < 10 ^ indexWidth) where
       )
 
   any-shown : (e : ScriptEvent) (r : LineAnswer) → length (lineText (lineOf i e r)) ≤ 4 * malformedWidth
-  unfolding lineOf
+  unfolding lineOf lineWith
   any-shown e r =
       omega (
         arith,

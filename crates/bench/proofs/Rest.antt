@@ -8,24 +8,31 @@ use lib.ListN.{length, length-append}
 use lib.Seq.{sets}
 use Rattle.tally.specs.Limits.{Limits}
 use Rattle.script.specs.declared.ScriptEvent.{ScriptEvent}
+use Rattle.consensus.specs.declared.Answer.{Answer}
+use Rattle.bench_play.specs.Bench.{LineAnswer}
 use Rattle.bench_play.specs.Play.{answer, play, benchAfter}
 use Rattle.bench_play.specs.declared.Bench.{Bench}
-use Rattle.bench_play.specs.declared.LineAnswer.{LineAnswer}
 use Rattle.bench_play.proofs.Settled.{answer-line}
+use Rattle.bench_turns.specs.declared.Outcome.{Outcome}
+use Rattle.bench_turns.proofs.Turns.{Turned}
 use Rattle.bench_text.specs.Text.{lineText, endText}
 use Rattle.bench_text.specs.InnerText.{Puts}
-use Rattle.bench_text.specs.declared.ListingLine.{ListingLine}
 use Rattle.bench_text.proofs.Appending.{sets-append, room-first}
-use Rattle.bench.specs.Listing.{lineOf, linesText, malformedLine}
-use Rattle.bench.specs.InnerTurns.{eventsFrom, restText, LineAt, Turned}
+use Rattle.bench.specs.Listing.{lineOf, lineWith, linesText, malformedLine}
+use Rattle.bench.specs.InnerTurns.{eventsFrom, restText, LineAt}
 use Rattle.bench.specs.declared.turns.LineRead.{LineRead}
-use Rattle.bench.specs.declared.turns.Turn.{Turn}
 use Rattle.bench.proofs.LineEnds.{events-end}
 
 -- what a malformed line prints
 pub malformed-line : (l : Limits) (b : Bench) (i : ℕ) → lineOf i ScriptEvent.Malformed (answer l b ScriptEvent.Malformed) ≡ malformedLine i
-unfolding lineOf malformedLine
+unfolding lineOf lineWith malformedLine
 malformed-line l b i = rw (answer-line l b)
+
+-- the line of what came of a turn
+pub line-turned : (i : ℕ) {l : Limits} {b : Bench} {e : ScriptEvent} {u : ℕ} {a : Answer} {o : Outcome} → Turned l b e u a o
+    → lineWith i e (o .refusal) (o .sent) (o .decision) ≡ lineOf i e (answer l b e)
+unfolding lineOf
+line-turned i {l} {b} {e} t = ap (λ (r : LineAnswer). lineWith i e (r .refusal) (r .sent) (r .decision)) (t .same)
 
 -- a line of the listing, and then the rest
 pub rest-turn : (l : Limits) (b : Bench) (i : ℕ) (e : ScriptEvent) (es : List ScriptEvent)
@@ -48,19 +55,6 @@ module _ (l : Limits) (n : ℕ) (s : List ℕ) where
       room-first at (lineText (lineOf (i + 1) e (answer l b e))) (restText l (answer l b e .bench) (i + 1) (eventsFrom n s q)) xs
       (rw (h, rest-turn) at room)
 
-  pub turned : (b : Bench) (i p : ℕ) (line : LineRead) (a : LineAnswer) (shown : ListingLine) {xs ys : List ℕ} {at r : ℕ}
-      → LineAt n s p line → a ≡ answer l b (line .event) → shown ≡ lineOf (i + 1) (line .event) a → Puts xs at (lineText shown) ys r
-      → Turned l n s p b i xs at ys (record { bench = a .bench; next = line .next; at = r })
-  turned b i p line a shown L same e w =
-      record {
-        event = line .event;
-        events = L .events;
-        later = L .later;
-        within = L .within;
-        bench = ap (λ (x : LineAnswer). x .bench) same;
-        wrote = rw (← same, ← e) w;
-      }
-
   -- what is left to print from here prints the whole
   pub record Left (xs₀ : List ℕ) (b₀ : Bench) (p₀ at₀ : ℕ) (xs : List ℕ) (b : Bench) (p at i : ℕ) : Type 0 where
     pub same : sets xs at (restText l b i (eventsFrom n s p)) ≡ sets xs₀ at₀ (restText l b₀ 0 (eventsFrom n s p₀))
@@ -70,14 +64,15 @@ module _ (l : Limits) (n : ℕ) (s : List ℕ) where
   left-start xs b p at = record { same = refl; ends = refl }
 
   module _ {xs₀ xs : List ℕ} {b₀ b : Bench} {p₀ at₀ p at i : ℕ} (L : Left xs₀ b₀ p₀ at₀ xs b p at i) where
-    pub left-step : {ys : List ℕ} {t : Turn} → Turned l n s p b i xs at ys t → Left xs₀ b₀ p₀ at₀ ys (t .bench) (t .next) (t .at) (i + 1)
-    left-step {ys} {t} T =
-        let shown = lineText (lineOf (i + 1) (T .event) (answer l b (T .event))) in
-        let R = restText l (answer l b (T .event) .bench) (i + 1) (eventsFrom n s (t .next)) in
-        let f : restText l b i (eventsFrom n s p) ≡ shown ++ R = rw (T .events) (rest-turn l b i (T .event) (eventsFrom n s (t .next))) in
+    pub left-step : (line : LineRead) (next : Bench) {ys : List ℕ} {r : ℕ} → LineAt n s p line → next ≡ answer l b (line .event) .bench
+        → Puts xs at (lineText (lineOf (i + 1) (line .event) (answer l b (line .event)))) ys r → Left xs₀ b₀ p₀ at₀ ys next (line .next) r (i + 1)
+    left-step line next there same wrote =
+        let shown = lineText (lineOf (i + 1) (line .event) (answer l b (line .event))) in
+        let R = restText l (answer l b (line .event) .bench) (i + 1) (eventsFrom n s (line .next)) in
+        let f : restText l b i (eventsFrom n s p) ≡ shown ++ R = rw (there .events) (rest-turn l b i (line .event) (eventsFrom n s (line .next))) in
         record {
-          same = rw (T .bench, T .wrote .bytes, T .wrote .ends, sets-append xs at shown R, ← f) (L .same);
-          ends = rw (T .bench, T .wrote .ends) (omega (arith, ap length f, length-append shown R, L .ends));
+          same = rw (same, wrote .bytes, wrote .ends, sets-append xs at shown R, ← f) (L .same);
+          ends = rw (same, wrote .ends) (omega (arith, ap length f, length-append shown R, L .ends));
         }
 
     pub left-room : (zs : List ℕ) → length xs ≡ length zs → at₀ + length (restText l b₀ 0 (eventsFrom n s p₀)) ≤ length zs

@@ -7,13 +7,11 @@ use Rattle.tally.specs.Limits.{Limits}
 use Rattle.script.specs.Parts.{newline, parted}
 use Rattle.script.specs.Script.{eventUnit, eventsOf}
 use Rattle.script.specs.declared.ScriptEvent.{ScriptEvent}
-use Rattle.bench_play.specs.Play.{play, answer, benchAfter}
+use Rattle.bench_play.specs.Play.{play, benchAfter}
 use Rattle.bench_play.specs.declared.Bench.{Bench}
-use Rattle.bench_text.specs.Text.{endText, lineText}
-use Rattle.bench_text.specs.InnerText.{Puts}
-use Rattle.bench.specs.Listing.{lineOf, linesText}
+use Rattle.bench_text.specs.Text.{endText}
+use Rattle.bench.specs.Listing.{linesText}
 use Rattle.bench.specs.declared.turns.LineRead.{LineRead}
-use Rattle.bench.specs.declared.turns.Turn.{Turn}
 
 -- the events of a script from byte p on
 unfoldable pub eventsFrom : ℕ → List ℕ → ℕ → List ScriptEvent
@@ -29,12 +27,3 @@ pub record LineAt (n : ℕ) (s : List ℕ) (p : ℕ) (line : LineRead) : Type 0 
   pub later : p < line .next
   pub within : line .next ≤ length s
   pub unit : 0 < n → eventUnit (line .event) < n
-
--- the line's event is played on b, and its line of the listing put at place at
-pub record Turned (l : Limits) (n : ℕ) (s : List ℕ) (p : ℕ) (b : Bench) (i : ℕ) (xs : List ℕ) (at : ℕ) (ys : List ℕ) (t : Turn) : Type 0 where
-  pub event : ScriptEvent
-  pub events : eventsFrom n s p ≡ event ∷ eventsFrom n s (t .next)
-  pub later : p < t .next
-  pub within : t .next ≤ length s
-  pub bench : t .bench ≡ answer l b event .bench
-  pub wrote : Puts xs at (lineText (lineOf (i + 1) event (answer l b event))) ys (t .at)

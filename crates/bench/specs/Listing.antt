@@ -12,9 +12,8 @@ use Rattle.formats.specs.Codes.{letterOf}
 use Rattle.script.specs.Script.{Script, malformed, script, parse, questionMark, eventLetter}
 use Rattle.script.specs.declared.ScriptEvent.{ScriptEvent}
 use Rattle.script.specs.declared.Header.{Header}
-use Rattle.bench_play.specs.Bench.{start}
+use Rattle.bench_play.specs.Bench.{LineAnswer, start}
 use Rattle.bench_play.specs.Play.{Played, play, benchAfter}
-use Rattle.bench_play.specs.declared.LineAnswer.{LineAnswer}
 use Rattle.bench_play.specs.declared.Sent.{Sent}
 use Rattle.bench_text.specs.Text.{headerText, lineText, endText}
 use Rattle.bench_text.specs.declared.ListingLine.{ListingLine}
@@ -40,16 +39,12 @@ decisionShown Estimate.Blank = Shown.Dash
 decisionShown Estimate.Split = Shown.Dash
 decisionShown (Estimate.Mileage v) = Shown.Number v
 
+unfoldable pub lineWith : ℕ → ScriptEvent → Refusal → Sent → Estimate → ListingLine
+lineWith i e k s d =
+    record { index = i; letter = eventLetter e; unit = unitShown e; number = numberOf k; sent = sentShown s; decision = decisionShown d }
+
 unfoldable pub lineOf : ℕ → ScriptEvent → LineAnswer → ListingLine
-lineOf i e r =
-    record {
-      index = i;
-      letter = eventLetter e;
-      unit = unitShown e;
-      number = numberOf (r .refusal);
-      sent = sentShown (r .sent);
-      decision = decisionShown (r .decision);
-    }
+lineOf i e r = lineWith i e (r .refusal) (r .sent) (r .decision)
 
 -- the lines of what was played, the first of them with index i
 unfoldable pub linesText : ℕ → List Played → List ℕ

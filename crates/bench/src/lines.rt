@@ -1,14 +1,14 @@
 // An event's line.
-use bench_play::LineAnswer;
 use bench_play::Sent;
 use bench_script::events;
 use bench_text::ListingLine;
 use bench_text::Shown;
+use bench_turns::Outcome;
 use script::ScriptEvent;
 use tally::Estimate;
 use tally::Refusal;
 ghost use mathlib.Core.Path.{_≡_};
-ghost use Rattle.bench.specs.Listing.{unitShown, sentShown, decisionShown, lineOf, malformedLine};
+ghost use Rattle.bench.specs.Listing.{unitShown, sentShown, decisionShown, lineWith, malformedLine};
 
 fn unit_shown(e: ScriptEvent) -> Shown
     ensures { λ r. ⌜ r ≡ unitShown e ⌝ }
@@ -42,13 +42,13 @@ fn decision_shown(d: Estimate) -> Shown
     }
 }
 
-// The line of an event and its answer.
-pub(crate) fn listing_line(index: u32, e: ScriptEvent, answer: LineAnswer) -> ListingLine
-    ensures { λ r. ⌜ r ≡ lineOf index e answer ⌝ }
+// The line of an event and what came of it.
+pub(crate) fn listing_line(index: u32, e: ScriptEvent, o: Outcome) -> ListingLine
+    ensures { λ r. ⌜ r ≡ lineWith index e (o .refusal) (o .sent) (o .decision) ⌝ }
 {
-    let refusal = answer.refusal;
-    let sent = answer.sent;
-    let decision = answer.decision;
+    let refusal = o.refusal;
+    let sent = o.sent;
+    let decision = o.decision;
     ListingLine {
         index,
         letter: events::event_letter(e),

@@ -1,16 +1,15 @@
 // A script's event lines, one after the other.
 use super::lines;
-use bench_play::Bench;
 use bench_script::events;
 use bench_script::parts;
 use script::Header;
 use script::ScriptEvent;
 ghost use Prim.Native.Nat.{_+_, _≤_, _<_};
 ghost use lib.ListN.{length};
-ghost use Rattle.tally.specs.Limits.{today, scriptSize, senders, places};
+ghost use Rattle.tally.specs.Limits.{today, scriptSize, senders};
 ghost use Rattle.bench_play.specs.Bench.{start};
 ghost use Rattle.bench_text.specs.InnerText.{Puts};
-ghost use Rattle.bench.specs.InnerTurns.{eventsFrom, restText, LineAt, Turned};
+ghost use Rattle.bench.specs.InnerTurns.{eventsFrom, restText, LineAt};
 
 // A line's event, and where the next line begins.
 pub struct LineRead {
@@ -37,35 +36,6 @@ fn line_at(n: u8, script: &[u8], p: usize) -> LineRead
     }
 }
 
-// The bench after a line, where the next line begins, and where its line of the listing ended.
-pub struct Turn {
-    pub bench: Bench,
-    pub next: usize,
-    pub at: usize,
-}
-
-// Plays the line at byte p, and puts its line of the listing.
-fn take_turn(script: &[u8], p: usize, n: u8, b: Bench, i: u32, out: &mut [u8], at: usize) -> Turn
-    requires { ⌜ p < length (now script) ⌝ }
-    requires { ⌜ 0 < n ⌝ }
-    requires { ⌜ n ≤ senders ⌝ }
-    requires { ⌜ b .kept ≤ places ⌝ }
-    requires { ⌜ i < scriptSize ⌝ }
-    requires { ⌜ at + length (restText today b i (eventsFrom n (now script) p)) ≤ length (now out) ⌝ }
-    ensures { λ r. ⌜ Turned today n (now (script .entry)) p b i (now (out .entry)) at (now (out .exit)) r ⌝ }
-{
-    let line = line_at(n, script, p);
-    let event = line.event;
-    let answer = b.answer(event);
-    let end = bench_text::put_line(out, at, lines::listing_line(i + 1, event, answer));
-    let next = answer.bench;
-    Turn {
-        bench: next,
-        next: line.next,
-        at: end,
-    }
-}
-
 // The listing of all lines from byte `from` on, and the final line.
 pub(crate) fn put_events(
     script: &[u8],
@@ -81,17 +51,34 @@ pub(crate) fn put_events(
     requires { ⌜ begin + length (restText today (start h) 0 (eventsFrom (h .n) (now script) from)) ≤ length (now out) ⌝ }
     ensures { λ r. ⌜ Puts (now (out .entry)) begin (restText today (start h) 0 (eventsFrom (h .n) (now (script .entry)) from)) (now (out .exit)) r ⌝ }
 {
-    let mut b = Bench::start(h);
+    let mut b = bench_turns::start(h);
     let mut p = from;
     let mut at = begin;
     let mut i: u32 = 0;
     while p < script.len() {
-        let t = take_turn(script, p, h.n, b, i, out, at);
-        p = t.next;
-        at = t.at;
+        let line = line_at(h.n, script, p);
+        let event = line.event;
+        let u = bench_turns::event_unit(event) as usize;
+        let k = bench_turns::event_place(event) as usize;
+        let unit = b.units[u];
+        let m = b.messages[k];
+        let a = bench_turns::turn(unit, b.kept, m, event);
+        let o = bench_turns::outcome_of(b.kept, a);
+        at = bench_text::put_line(out, at, lines::listing_line(i + 1, event, o));
+        let refusal = o.refusal;
+        if tally::number(refusal) == 0 {
+            let next = a.unit;
+            b.units[u] = next;
+            let sent = o.sent;
+            if bench_turns::sends(sent) {
+                let message = a.message;
+                let place = b.kept as usize;
+                b.messages[place] = message;
+                b.kept += 1;
+            }
+        }
+        p = line.next;
         i += 1;
-        let next = t.bench;
-        b = next;
     }
     bench_text::put_end(out, at, i, b.kept)
 }

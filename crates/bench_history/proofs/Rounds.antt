@@ -28,10 +28,9 @@ use Rattle.agreement.proofs.History.{from-unit}
 use Rattle.script.specs.Script.{eventUnit, inRanges}
 use Rattle.script.specs.declared.ScriptEvent.{ScriptEvent}
 use Rattle.script.specs.declared.Header.{Header}
-use Rattle.bench_play.specs.Bench.{start, noUnit, unitAt, messageAt, withUnit, withMessage}
+use Rattle.bench_play.specs.Bench.{LineAnswer, start, noUnit, unitAt, messageAt, withUnit, withMessage}
 use Rattle.bench_play.specs.Play.{Played, delivery, answer, play, benchAfter, unitAnswer}
 use Rattle.bench_play.specs.declared.Bench.{Bench}
-use Rattle.bench_play.specs.declared.LineAnswer.{LineAnswer}
 use Rattle.bench_play.specs.Claims.{Sized}
 use Rattle.bench_history.specs.History.{setupOf, Below, contentsAfter}
 use Rattle.bench_history.specs.Covered.{met}

@@ -27,10 +27,9 @@ use Rattle.script.specs.declared.ScriptEvent.{ScriptEvent}
 use Rattle.script.specs.declared.Header.{Header}
 use Rattle.script.proofs.HeaderLines.{ranges}
 use Rattle.bench_play.specs.Bench as P
-use Rattle.bench_play.specs.Bench.{freshUnits, start, noUnit, unitAt, refused, accepted, withUnit, withMessage}
+use Rattle.bench_play.specs.Bench.{LineAnswer, freshUnits, start, noUnit, unitAt, refused, accepted, withUnit, withMessage}
 use Rattle.bench_play.specs.Play.{Played, answer, play, benchAfter, unitAnswer}
 use Rattle.bench_play.specs.declared.Bench.{Bench}
-use Rattle.bench_play.specs.declared.LineAnswer.{LineAnswer}
 use Rattle.bench_play.specs.declared.Sent.{Sent}
 use Rattle.bench_history.specs.History.{setupOf, Below, ofAccepted, contentsEvent, history, eventProposals, proposals, decidedOf, decisions, Shows}
 use Rattle.bench_history.specs.History.{contentsAfter}

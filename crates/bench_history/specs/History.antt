@@ -16,10 +16,9 @@ use Rattle.agreement.specs.Worlds.{Setup, Proposal, Decision, run}
 use Rattle.script.specs.Script.{eventUnit}
 use Rattle.script.specs.declared.ScriptEvent.{ScriptEvent}
 use Rattle.script.specs.declared.Header.{Header}
-use Rattle.bench_play.specs.Bench.{start, unitAt}
+use Rattle.bench_play.specs.Bench.{LineAnswer, start, unitAt}
 use Rattle.bench_play.specs.Play.{Played, play}
 use Rattle.bench_play.specs.declared.Bench.{Bench}
-use Rattle.bench_play.specs.declared.LineAnswer.{LineAnswer}
 
 abbrev pub setupOf : Header → Setup
 setupOf h = record { engine = h .engine; n = h .n; entry = h .entry }

@@ -21,10 +21,9 @@ use Rattle.consensus.proofs.Answers.{deliver-power}
 use Rattle.consensus.proofs.Order.{first-lowest}
 use Rattle.consensus.proofs.Refusals.{propose-down}
 use Rattle.script.specs.declared.ScriptEvent.{ScriptEvent}
-use Rattle.bench_play.specs.Bench.{unitAt, messageAt}
+use Rattle.bench_play.specs.Bench.{LineAnswer, unitAt, messageAt}
 use Rattle.bench_play.specs.Play.{deliveryConditions, delivery, cutShort, unitAnswer, answer}
 use Rattle.bench_play.specs.declared.Bench.{Bench}
-use Rattle.bench_play.specs.declared.LineAnswer.{LineAnswer}
 use Rattle.bench_play.proofs.Settled.{by-answer, unless-accepts}
 
 abbrev pub Accepts : Answer → Type 0
@@ -55,8 +54,9 @@ pub record Delivered (l : Limits) (b : Bench) (u k : ℕ) : Type 0 where
 pub delivered : (l : Limits) (b : Bench) (u k : ℕ) → Accepts (delivery l b u k) → Delivered l b u k
 unfolding delivery deliveryConditions
 delivered l b u k zero =
-    let a = unless-accepts (deliveryConditions b u k) (unitAt b u) (deliver l (unitAt b u) (messageAt b k)) zero in
-    let none = first-lowest (deliveryConditions b u k) (omega arith, (omega arith, tt)) .accepted (a .0) in
+    let conditions = deliveryConditions (unitAt b u) (b .kept) k in
+    let a = unless-accepts conditions (unitAt b u) (deliver l (unitAt b u) (messageAt b k)) zero in
+    let none = first-lowest conditions (omega arith, (omega arith, tt)) .accepted (a .0) in
     record { up = is-up _ (not-false _ (none .0)); sent = leb-false _ _ (none .1 .0); same = a .1 }
 
 -- 9 before 10, whatever the message; and 10 before the unit's own numbers

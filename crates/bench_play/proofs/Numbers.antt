@@ -19,10 +19,9 @@ use Rattle.consensus.proofs.Answers.{plain-proposed, plain-received}
 use Rattle.consensus.proofs.Order.{first-lowest}
 use Rattle.script.specs.Script.{eventUnit}
 use Rattle.script.specs.declared.ScriptEvent.{ScriptEvent}
-use Rattle.bench_play.specs.Bench.{unitAt, messageAt}
+use Rattle.bench_play.specs.Bench.{LineAnswer, unitAt, messageAt}
 use Rattle.bench_play.specs.Play.{deliveryConditions, delivery, cutShort, unitAnswer, answer}
 use Rattle.bench_play.specs.declared.Bench.{Bench}
-use Rattle.bench_play.specs.declared.LineAnswer.{LineAnswer}
 use Rattle.bench_play.specs.Claims.{Sized, WouldSend, Sending, ofP, ofD, NoPlace}
 use Rattle.bench_play.proofs.Accepting.{cut-accepted, off-accepted, on-accepted}
 use Rattle.bench_play.proofs.Settled.{by-answer}
@@ -75,9 +74,10 @@ module _ (Q : Refusal → Type 0) where
     of-delivery : (k : ℕ) → Q (delivery l b u k .refusal)
     unfolding delivery deliveryConditions deliver deliverConditions
     of-delivery k =
-        unless-of (each .none) (deliveryConditions b u k) (unitAt b u) (deliver l (unitAt b u) (messageAt b k)) (λ h. each .power, (λ h. each .unsent, tt))
+        let conditions = deliveryConditions (unitAt b u) (b .kept) k in
+        unless-of (each .none) conditions (unitAt b u) (deliver l (unitAt b u) (messageAt b k)) (λ h. each .power, (λ h. each .unsent, tt))
         (λ ok.
-        let sent : k < b .kept = leb-false _ _ (first-lowest (deliveryConditions b u k) (omega arith, (omega arith, tt)) .accepted ok .1 .0) in
+        let sent : k < b .kept = leb-false _ _ (first-lowest conditions (omega arith, (omega arith, tt)) .accepted ok .1 .0) in
         unless-of (each .none) (deliverConditions l (unitAt b u) (messageAt b k)) (unitAt b u) (received (unitAt b u) (messageAt b k))
         (λ h. each .message k sent (not-true _ h), (λ h. each .power, (λ h. each .addressee, (λ h. each .last k sent h, tt))))
         (λ ok. rw (plain-received (unitAt b u) (messageAt b k) .none) (each .none)))

@@ -1,5 +1,5 @@
 -- The lines of a played script, one by one: where each stands, how many send, and with which numbers. Assumes nothing.
-use Prim.Native.Nat.{ℕ, zero, suc, _+_, _≤_, _<_}
+use Prim.Native.Nat.{ℕ, zero, suc, _+_, _<_}
 use mathlib.Core.Path.{_≡_, refl, ap, _∙_}
 use mathlib.Core.Bool.{Bool, true, false, cond}
 use mathlib.Core.List.{List, [], _∷_, _++_, flatMap, List·Memᴰ, List·Memᴰ·cases-cons, List·Memᴰ·not-nil}
@@ -17,10 +17,9 @@ use Rattle.consensus.specs.declared.Unit as U
 use Rattle.script.specs.Script.{eventUnit}
 use Rattle.script.specs.declared.ScriptEvent.{ScriptEvent}
 use Rattle.script.specs.declared.Header.{Header}
-use Rattle.bench_play.specs.Bench.{freshUnits, start, noUnit, unitAt, messageAt, withUnit, withMessage}
+use Rattle.bench_play.specs.Bench.{LineAnswer, freshUnits, start, noUnit, unitAt, messageAt, withUnit, withMessage}
 use Rattle.bench_play.specs.Play.{Played, unitAnswer, answer, play, benchAfter}
 use Rattle.bench_play.specs.declared.Bench.{Bench}
-use Rattle.bench_play.specs.declared.LineAnswer.{LineAnswer}
 use Rattle.bench_play.specs.declared.Sent.{Sent}
 use Rattle.bench_play.specs.Claims.{Sized, KeptStays, Unchanged, rising, sentNumbers}
 use Rattle.bench_play.proofs.Settled.{by-answer}
@@ -81,13 +80,6 @@ pub kept-stays : (l : Limits) (b : Bench) (es : List ScriptEvent) → KeptStays 
 unfolding benchAfter
 kept-stays l b [] = kept-same b
 kept-stays l b (e ∷ es) = kept-then (answer-stays l b e) (kept-stays l (answer l b e .bench) es)
-
--- no more places are filled than there are
-pub answer-kept : (b : Bench) → b .kept ≤ places → (l : Limits) (e : ScriptEvent) → answer l b e .bench .kept ≤ places
-unfolding withUnit withMessage
-answer-kept b h l e =
-    by-answer (λ r. r .bench .kept ≤ places) l b e
-    (record { refuses = λ some. h; quiet = λ ok empty. h; full = λ ok some full. h; sends = λ ok some room. omega arith })
 
 pub sized-after : (l : Limits) (es : List ScriptEvent) (b : Bench) → Sized b → Sized (benchAfter l b es)
 unfolding benchAfter

@@ -18,10 +18,9 @@ use Rattle.consensus.specs.declared.Answer.{Answer}
 use Rattle.consensus.specs.declared.Unit as U
 use Rattle.script.specs.Script.{eventUnit}
 use Rattle.script.specs.declared.ScriptEvent.{ScriptEvent}
-use Rattle.bench_play.specs.Bench.{noUnit, refused, accepted, noPlaceLeft, withUnit, withMessage, send, settle}
+use Rattle.bench_play.specs.Bench.{LineAnswer, refused, accepted, noPlaceLeft, withUnit, withMessage, send, settle}
 use Rattle.bench_play.specs.Play.{unitAnswer, answer}
 use Rattle.bench_play.specs.declared.Bench.{Bench}
-use Rattle.bench_play.specs.declared.LineAnswer.{LineAnswer}
 use Rattle.bench_play.specs.declared.Sent.{Sent}
 
 is-empty : (k : Kind) → isEmpty k ≡ true → k ≡ Empty
@@ -33,11 +32,6 @@ is-empty Skip h = never h
 
 not-empty : (k : Kind) → isEmpty k ≡ false → k ≡ Empty → ⊥
 not-empty k h e = never (sym h ∙ ap isEmpty e)
-
--- a place is left, also after a unit is put back
-pub place-left : (b : Bench) (u : ℕ) (x : U.Unit) → noPlaceLeft b u ≡ false → withUnit b u x .kept < places
-unfolding noPlaceLeft withUnit
-place-left b u x h = leb-false places (b .kept) h
 
 -- the bench's answer to an answer a of unit u
 pub record Settling (P : LineAnswer → Type 0) (b : Bench) (u : ℕ) (a : Answer) : Type 0 where
@@ -67,13 +61,9 @@ by-settle P b u a s = number (eqb (numberOf (a .refusal)) 0) refl
     number false e = s .refuses (eqb-false _ _ e)
 
 -- a malformed line is refused
-pub refused-line : {b : Bench} → settle b 0 (refuses noUnit Refusal.Line) ≡ refused b Refusal.Line
-unfolding settle
-refused-line {b} = refl
-
 pub answer-line : (l : Limits) (b : Bench) → answer l b ScriptEvent.Malformed ≡ refused b Refusal.Line
-unfolding answer unitAnswer
-answer-line l b = refused-line
+unfolding answer unitAnswer settle
+answer-line l b = refl
 
 pub by-answer : (P : LineAnswer → Type 0) (l : Limits) (b : Bench) (e : ScriptEvent) → Settling P b (eventUnit e) (unitAnswer l b e) → P (answer l b e)
 unfolding answer

@@ -19,7 +19,6 @@ use Rattle.consensus.specs.declared.Power.the-variants.{Down}
 use Rattle.consensus.specs.declared.Unit as U
 use Rattle.script.specs.declared.Header.{Header}
 use Rattle.bench_play.specs.declared.Bench.{Bench}
-use Rattle.bench_play.specs.declared.LineAnswer.{LineAnswer}
 use Rattle.bench_play.specs.declared.Sent.{Sent}
 
 -- ---- at the start
@@ -59,6 +58,13 @@ messageAt b k = getD (b .messages) k emptyMessage
 
 -- ---- answers
 
+-- what an event is answered: a refusal or None, the bench after it, the message sent, and a mileage decided or blank
+pub record LineAnswer : Type 0 where
+  pub bench : Bench
+  pub refusal : Refusal
+  pub sent : Sent
+  pub decision : Estimate
+
 -- a refused event changes nothing, sends nothing and decides nothing
 abbrev pub refused : Bench → Refusal → LineAnswer
 refused b k = record { bench = b; refusal = k; sent = Sent.Nothing; decision = Blank }
@@ -66,9 +72,9 @@ refused b k = record { bench = b; refusal = k; sent = Sent.Nothing; decision = B
 abbrev pub accepted : Bench → Sent → Estimate → LineAnswer
 accepted b s d = record { bench = b; refusal = Refusal.None; sent = s; decision = d }
 
--- 11: no place is left for a message of unit u
-unfoldable pub noPlaceLeft : Bench → ℕ → Bool
-noPlaceLeft b u = leb places (b .kept)
+-- 11: no place is left, with that many messages kept
+unfoldable pub noPlaceLeft : ℕ → Bool
+noPlaceLeft kept = leb places kept
 
 -- unit u is x from now on
 unfoldable pub withUnit : Bench → ℕ → U.Unit → Bench
@@ -81,7 +87,7 @@ withMessage b m = record { units = b .units; messages = set (b .messages) (b .ke
 -- 11 is last, and refuses the whole event
 unfoldable pub send : Bench → ℕ → Answer → LineAnswer
 send b u a =
-    cond (noPlaceLeft b u) (refused b Refusal.Full)
+    cond (noPlaceLeft (b .kept)) (refused b Refusal.Full)
     (accepted (withMessage (withUnit b u (a .unit)) (a .message)) (Sent.At (b .kept)) (a .decision))
 
 -- what unit u's answer makes of the bench

@@ -9,9 +9,8 @@ use Rattle.tally.specs.declared.Estimate.the-variants.{Blank}
 use Rattle.contents.specs.declared.Kind.the-variants.{Empty}
 use Rattle.script.specs.declared.ScriptEvent.{ScriptEvent}
 use Rattle.bench_play.specs.Play.{Played, unitAnswer}
-use Rattle.bench_play.specs.Bench.{messageAt}
+use Rattle.bench_play.specs.Bench.{LineAnswer, messageAt}
 use Rattle.bench_play.specs.declared.Bench.{Bench}
-use Rattle.bench_play.specs.declared.LineAnswer.{LineAnswer}
 use Rattle.bench_play.specs.declared.Sent.{Sent}
 
 -- 16 units and 128 places, as the code's types say, of which at most 128 are filled

@@ -9,18 +9,18 @@ use Rattle.tally.specs.declared.Refusal.{Refusal}
 use Rattle.consensus.specs.Methods.{isUp, refuses, unless, propose, deliver, keyOff, keyOn}
 use Rattle.consensus.specs.Conditions.{Condition, condition}
 use Rattle.consensus.specs.declared.Answer.{Answer}
+use Rattle.consensus.specs.declared.Unit as U
 use Rattle.script.specs.Script.{eventUnit}
 use Rattle.script.specs.declared.ScriptEvent.{ScriptEvent}
-use Rattle.bench_play.specs.Bench.{noUnit, unitAt, messageAt, settle}
+use Rattle.bench_play.specs.Bench.{LineAnswer, noUnit, unitAt, messageAt, settle}
 use Rattle.bench_play.specs.declared.Bench.{Bench}
-use Rattle.bench_play.specs.declared.LineAnswer.{LineAnswer}
 
 -- 9 and 10 come before the unit's own numbers
-unfoldable pub deliveryConditions : Bench → ℕ → ℕ → List Condition
-deliveryConditions b u k = condition Refusal.Power (not (isUp (unitAt b u .power))) ∷ condition Refusal.Unsent (leb (b .kept) k) ∷ []
+unfoldable pub deliveryConditions : U.Unit → ℕ → ℕ → List Condition
+deliveryConditions x kept k = condition Refusal.Power (not (isUp (x .power))) ∷ condition Refusal.Unsent (leb kept k) ∷ []
 
 unfoldable pub delivery : Limits → Bench → ℕ → ℕ → Answer
-delivery l b u k = unless (deliveryConditions b u k) (unitAt b u) (deliver l (unitAt b u) (messageAt b k))
+delivery l b u k = unless (deliveryConditions (unitAt b u) (b .kept) k) (unitAt b u) (deliver l (unitAt b u) (messageAt b k))
 
 -- W: as D, but the key goes off after the log write, if any; nothing is sent or decided. A refused W leaves the unit up
 unfoldable pub cutShort : Answer → Answer

@@ -1,10 +1,22 @@
-// What a C program links: logs and messages as plain numbers and as bytes, and the four calls of a unit.
+// What a C program links: the version, logs and messages as plain numbers and as bytes, and the four calls of a unit.
 ghost use mathlib.Core.Path.{_≡_};
 ghost use mathlib.Core.List.{[]};
 ghost use Rattle.tally.specs.Limits.{today, blankCode};
 ghost use Rattle.formats.specs.Formats.{wrote};
 ghost use Rattle.calls.specs.Fields.{readLogCall, writeLogCall, readMessageCall, writeMessageCall};
 ghost use Rattle.calls.specs.Calls.{called, startCall, keyOnCall, proposeCall, deliverCall};
+ghost use Rattle.mileage.specs.Version.{version};
+
+// As specs/Version.antt has it, and the header.
+const VERSION: u32 = 1;
+
+// The version of this core: where it is not the header's, header and archive are not of one landing.
+#[no_mangle]
+pub extern "C" fn mileage_version() -> u32
+    ensures { λ r. ⌜ r ≡ version ⌝ }
+{
+    VERSION
+}
 
 // Reads a log's eight numbers: engine letter, n, unit, entry, round, proposal, first and second estimate.
 #[no_mangle]

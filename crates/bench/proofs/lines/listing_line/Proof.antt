@@ -1,10 +1,10 @@
-use Rattle.bench.specs.Listing.{lineOf}
+use Rattle.bench.specs.Listing.{lineWith}
 use borrow.Author.Needs.{needs}
 use Rattle.bench.proofs.lines.listing_line.Statement.{statement}
 use Rattle.bench.proofs.lines.listing_line.Tie as tie
 
 pub listing-line-spec : {M : Type 1} → statement M
-unfolding lineOf
+unfolding lineWith
 listing-line-spec =
     tie.close
     (tie.spec

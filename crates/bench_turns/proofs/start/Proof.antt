@@ -1,7 +1,7 @@
 use Rattle.bench_play.specs.Bench.{start}
 use borrow.Author.Needs.{needs}
-use Rattle.bench_play.proofs.Bench.start.Statement.{statement}
-use Rattle.bench_play.proofs.Bench.start.Tie as tie
+use Rattle.bench_turns.proofs.start.Statement.{statement}
+use Rattle.bench_turns.proofs.start.Tie as tie
 
 pub start-spec : {M : Type 1} → statement M
 unfolding start

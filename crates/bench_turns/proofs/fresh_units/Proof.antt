@@ -11,9 +11,9 @@ use Rattle.tally.specs.Limits.{senders}
 use Rattle.consensus.specs.Step.{fresh}
 use Rattle.consensus.specs.declared.Unit as U
 use Rattle.script.specs.declared.Header.{Header}
 use Rattle.bench_play.specs.Bench.{headerSettings, freshUnits}
-use Rattle.bench_play.proofs.fresh_units.Statement.{statement}
-use Rattle.bench_play.proofs.fresh_units.Tie as tie
+use Rattle.bench_turns.proofs.fresh_units.Statement.{statement}
+use Rattle.bench_turns.proofs.fresh_units.Tie as tie
 
 abbrev Inv-loop : tie.InvT-loop
 Inv-loop h units₀ i₀ units i = (i ≤ senders) × (length units ≡ senders) × (take i units ≡ freshUnits h i)

@@ -1,8 +1,8 @@
 use borrow.Author.Tests.{eq-eqb, ne-eqb}
 use Rattle.bench_play.specs.Play.{cutShort}
 use borrow.Author.Needs.{needs}
-use Rattle.bench_play.proofs.cut_short.Statement.{statement}
-use Rattle.bench_play.proofs.cut_short.Tie as tie
+use Rattle.bench_turns.proofs.cut_short.Statement.{statement}
+use Rattle.bench_turns.proofs.cut_short.Tie as tie
 
 pub cut-short-spec : {M : Type 1} → statement M
 unfolding cutShort

@@ -1,0 +1,23 @@
+use borrow.Author.Tests.{le-leb, lt-leb}
+use borrow.Author.Needs.{needs}
+use Rattle.consensus.specs.Conditions.{firstOf}
+use Rattle.consensus.specs.Methods.{unless}
+use Rattle.bench_play.specs.Play.{deliveryConditions}
+use Rattle.bench_turns.specs.InnerTurns.{delivered}
+use Rattle.bench_turns.proofs.delivered.Statement.{statement}
+use Rattle.bench_turns.proofs.delivered.Tie as tie
+
+pub delivered-spec : {M : Type 1} → statement M
+unfolding delivered deliveryConditions unless firstOf
+delivered-spec =
+    tie.close
+    (tie.spec
+    (λ c κs. search needs)
+    (λ c κs. search needs)
+    (λ c. simp (← (c .before .before .is-up .ensures), c .before .if1 .taken) (c .refused .ensures))
+    (λ c κs. search needs)
+    (λ c. simp (← (c .before .before .before .is-up .ensures), c .before .before .if1 .left, le-leb _ _ (c .before .if2 .taken))
+    (c .refused2 .ensures))
+    (λ c κs. search needs)
+    (λ c. simp (← (c .before .before .before .is-up .ensures), c .before .before .if1 .left, lt-leb _ _ (c .before .if2 .left))
+    (c .deliver .ensures)))

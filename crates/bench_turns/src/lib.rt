@@ -1,0 +1,203 @@
+// The bench at its start, and an event as a turn of its unit: what it takes of the bench goes in by value, and what it makes of it comes back.
+use bench_play::Bench;
+use bench_play::Sent;
+use consensus::Answer;
+use consensus::Unit;
+use consensus::methods;
+use consensus::step;
+use contents::Message;
+use contents::Settings;
+use rules::messages;
+use script::Header;
+use script::ScriptEvent;
+use tally::Estimate;
+use tally::Refusal;
+use tally::limits;
+ghost use mathlib.Core.Path.{_≡_};
+ghost use Rattle.tally.specs.Limits.{today, senders};
+ghost use Rattle.script.specs.Script.{eventUnit};
+ghost use Rattle.consensus.specs.Step.{fresh};
+ghost use Rattle.bench_play.specs.Bench.{headerSettings, freshUnits, start, noPlaceLeft};
+ghost use Rattle.bench_play.specs.Play.{cutShort};
+ghost use Rattle.bench_turns.specs.InnerTurns.{placeOr, eventPlace, delivered, turn, turnedDown, taken, outcomeOf, sends};
+
+// ---- at the start
+
+fn fresh_unit(h: Header, unit: u8) -> Unit
+    ensures { λ r. ⌜ r ≡ fresh (headerSettings h unit) ⌝ }
+{
+    let engine = h.engine;
+    Unit::fresh(Settings {
+        engine,
+        n: h.n,
+        unit,
+        entry: h.entry,
+    })
+}
+
+// The units, each with its own number.
+fn fresh_units(h: Header) -> [Unit; limits::SENDERS]
+    ensures { λ r. ⌜ r ≡ freshUnits h senders ⌝ }
+{
+    let mut units = [fresh_unit(h, 0); limits::SENDERS];
+    let mut i: u8 = 0;
+    while i < limits::MAX_UNITS {
+        let at = i as usize;
+        units[at] = fresh_unit(h, i);
+        i += 1;
+    }
+    units
+}
+
+pub fn start(h: Header) -> Bench
+    ensures { λ r. ⌜ r ≡ start h ⌝ }
+{
+    Bench {
+        units: fresh_units(h),
+        messages: [step::EMPTY; limits::PLACES],
+        kept: 0,
+    }
+}
+
+// ---- what an event takes of the bench
+
+pub fn event_unit(e: ScriptEvent) -> u32
+    ensures { λ r. ⌜ r ≡ eventUnit e ⌝ }
+{
+    match e {
+        ScriptEvent::Malformed => 0,
+        ScriptEvent::Propose(u, _) => u,
+        ScriptEvent::Deliver(u, _) => u,
+        ScriptEvent::Cut(u, _) => u,
+        ScriptEvent::KeyOff(u) => u,
+        ScriptEvent::KeyOn(u) => u,
+    }
+}
+
+fn place_or(k: u32) -> u32
+    ensures { λ r. ⌜ r ≡ placeOr k ⌝ }
+{
+    if k < limits::PLACES as u32 { k } else { 0 }
+}
+
+// The place of the message that an event takes; the first where it takes none, or one that no place has.
+pub fn event_place(e: ScriptEvent) -> u32
+    ensures { λ r. ⌜ r ≡ eventPlace e ⌝ }
+{
+    match e {
+        ScriptEvent::Malformed => 0,
+        ScriptEvent::Propose(_, _) => 0,
+        ScriptEvent::Deliver(_, k) => place_or(k),
+        ScriptEvent::Cut(_, k) => place_or(k),
+        ScriptEvent::KeyOff(_) => 0,
+        ScriptEvent::KeyOn(_) => 0,
+    }
+}
+
+// ---- what its unit answers
+
+// A delivery of m, which has number k: 9 and 10 come before the unit's own numbers.
+fn delivered(unit: Unit, kept: u32, m: Message, k: u32) -> Answer
+    ensures { λ r. ⌜ r ≡ delivered today unit kept m k ⌝ }
+{
+    let power = unit.power;
+    if !methods::is_up(power) {
+        return unit.refused(Refusal::Power);
+    }
+    if kept <= k {
+        return unit.refused(Refusal::Unsent);
+    }
+    unit.deliver(m)
+}
+
+// The key goes off after the log write: nothing is sent or decided.
+fn cut_short(a: Answer) -> Answer
+    ensures { λ r. ⌜ r ≡ cutShort a ⌝ }
+{
+    let why = a.refusal;
+    if tally::number(why) == 0 {
+        let unit = a.unit;
+        unit.key_off()
+    } else {
+        a
+    }
+}
+
+// What the unit of an event answers, with that many messages kept, of which m stands at the event's place.
+pub fn turn(unit: Unit, kept: u32, m: Message, e: ScriptEvent) -> Answer
+    ensures { λ r. ⌜ r ≡ turn today unit kept m e ⌝ }
+{
+    match e {
+        ScriptEvent::Malformed => unit.refused(Refusal::Line),
+        ScriptEvent::Propose(_, v) => unit.propose(v),
+        ScriptEvent::Deliver(_, k) => delivered(unit, kept, m, k),
+        ScriptEvent::Cut(_, k) => cut_short(delivered(unit, kept, m, k)),
+        ScriptEvent::KeyOff(_) => unit.key_off(),
+        ScriptEvent::KeyOn(_) => unit.key_on(),
+    }
+}
+
+// ---- what comes of it
+
+// What a line shows beside its event: a refusal or None, the message sent, and a mileage decided or blank.
+pub struct Outcome {
+    pub refusal: Refusal,
+    pub sent: Sent,
+    pub decision: Estimate,
+}
+
+fn turned_down(refusal: Refusal) -> Outcome
+    ensures { λ r. ⌜ r ≡ turnedDown refusal ⌝ }
+{
+    Outcome {
+        refusal,
+        sent: Sent::Nothing,
+        decision: Estimate::Blank,
+    }
+}
+
+fn taken(sent: Sent, decision: Estimate) -> Outcome
+    ensures { λ r. ⌜ r ≡ taken sent decision ⌝ }
+{
+    Outcome {
+        refusal: Refusal::None,
+        sent,
+        decision,
+    }
+}
+
+fn no_place_left(kept: u32) -> bool
+    ensures { λ r. ⌜ r ≡ noPlaceLeft kept ⌝ }
+{
+    limits::PLACES as u32 <= kept
+}
+
+// What comes of a unit's answer, with that many messages kept: 11 is last, and refuses the whole event.
+pub fn outcome_of(kept: u32, a: Answer) -> Outcome
+    ensures { λ r. ⌜ r ≡ outcomeOf kept a ⌝ }
+{
+    let refusal = a.refusal;
+    let message = a.message;
+    let kind = message.kind;
+    let decision = a.decision;
+    if tally::number(refusal) == 0 {
+        if messages::is_empty(kind) {
+            return taken(Sent::Nothing, decision);
+        }
+        if no_place_left(kept) {
+            return turned_down(Refusal::Full);
+        }
+        taken(Sent::At(kept), decision)
+    } else {
+        turned_down(refusal)
+    }
+}
+
+pub fn sends(s: Sent) -> bool
+    ensures { λ r. ⌜ r ≡ sends s ⌝ }
+{
+    match s {
+        Sent::Nothing => false,
+        Sent::At(_) => true,
+    }
+}
