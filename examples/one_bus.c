@@ -6,6 +6,8 @@
  *
  * From the repository's root, after `rt staticlib mileage`:
  *   cc -std=c99 -Iinclude examples/one_bus.c target/staticlib/libmileage.a -o target/one_bus && target/one_bus
+ * or anywhere, after `make install`:
+ *   cc -std=c99 one_bus.c $(pkg-config --cflags --libs mileage) -o one_bus && ./one_bus
  */
 #include <stdbool.h>
 #include <stdio.h>
@@ -21,7 +23,7 @@ enum { ENTRY = 7 };
 struct unit {
     const char *name;
     bool on;
-    uint8_t permanent[MILEAGE_LOG_LENGTH]; /* the log: outlives the key */
+    uint8_t permanent[MILEAGE_LOG_LENGTH]; /* the log: outlives the key; never lent itself, but as a copy */
     uint8_t image[MILEAGE_IMAGE_LENGTH];   /* working memory: lost with the key */
     bool cut;                              /* the key goes off before its next message leaves */
     uint32_t decision;
@@ -69,6 +71,17 @@ static void send_out(const struct unit *unit, const uint8_t *message)
     printf("\n");
 }
 
+/* Permanent memory, to and from a copy in working memory, which is what the calls are lent. */
+static void load_log(const struct unit *unit, uint8_t *log)
+{
+    memcpy(log, unit->permanent, MILEAGE_LOG_LENGTH);
+}
+
+static void save_log(struct unit *unit, const uint8_t *log)
+{
+    memcpy(unit->permanent, log, MILEAGE_LOG_LENGTH);
+}
+
 static void key_off(struct unit *unit)
 {
     unit->on = false;
@@ -82,7 +95,7 @@ static void start(uint32_t number)
     uint8_t log[MILEAGE_LOG_LENGTH];
 
     must(mileage_start('B', UNITS, number, ENTRY, log, sizeof log, unit->image, sizeof unit->image) == MILEAGE_ACCEPTED, "start");
-    memcpy(unit->permanent, log, sizeof log);
+    save_log(unit, log);
     unit->on = true;
     unit->decision = MILEAGE_BLANK;
 }
@@ -90,7 +103,10 @@ static void start(uint32_t number)
 /* After each key-on: the image is made of the log. */
 static void key_on(struct unit *unit)
 {
-    must(mileage_key_on(unit->permanent, sizeof unit->permanent, unit->image, sizeof unit->image) == MILEAGE_ACCEPTED, "key-on");
+    uint8_t log[MILEAGE_LOG_LENGTH];
+
+    load_log(unit, log);
+    must(mileage_key_on(log, sizeof log, unit->image, sizeof unit->image) == MILEAGE_ACCEPTED, "key-on");
     unit->on = true;
     printf("%s: key on\n", unit->name);
 }
@@ -98,11 +114,12 @@ static void key_on(struct unit *unit)
 /* A proposal writes no log: its message may leave at once. */
 static void propose(struct unit *unit, uint32_t mileage)
 {
-    uint8_t out[MILEAGE_MESSAGE_LENGTH];
+    uint8_t log[MILEAGE_LOG_LENGTH], out[MILEAGE_MESSAGE_LENGTH];
 
     printf("%s proposes %lu\n", unit->name, (unsigned long)mileage);
-    must(mileage_propose(unit->permanent, sizeof unit->permanent, unit->image, sizeof unit->image, mileage,
-                         out, sizeof out) == MILEAGE_ACCEPTED, "propose");
+    load_log(unit, log);
+    must(mileage_propose(log, sizeof log, unit->image, sizeof unit->image, mileage, out, sizeof out) == MILEAGE_ACCEPTED,
+         "propose");
     send_out(unit, out);
 }
 
@@ -112,13 +129,13 @@ static void deliver(struct unit *unit, const uint8_t *message)
     uint8_t log[MILEAGE_LOG_LENGTH], out[MILEAGE_MESSAGE_LENGTH];
     uint32_t number, decision;
 
-    memcpy(log, unit->permanent, sizeof log);
+    load_log(unit, log);
     number = mileage_deliver(log, sizeof log, unit->image, sizeof unit->image, message, MILEAGE_MESSAGE_LENGTH,
                              out, sizeof out, &decision);
     if (number == MILEAGE_MALFORMED_MESSAGE || number == MILEAGE_NOT_FOR_UNIT || number == MILEAGE_LAST_ROUND)
         return; /* nothing has changed; 5 is another unit's SKIP, or another entry's message */
     must(number == MILEAGE_ACCEPTED, "deliver");
-    memcpy(unit->permanent, log, sizeof log);
+    save_log(unit, log);
     if (unit->cut) {
         unit->cut = false;
         key_off(unit);
@@ -156,6 +173,7 @@ static void carry_the_rest(void)
 
 int main(void)
 {
+    must(mileage_version() == MILEAGE_VERSION, "the archive is of this header's version");
     for (uint32_t number = 0; number < UNITS; number++)
         start(number);
 

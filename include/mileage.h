@@ -1,14 +1,15 @@
 /*
  * The mileage agreement core as C firmware calls it: the unit of one entry (starting it, key-on, proposing, delivering),
- * and reading and writing logs and messages. Link libmileage.a; it keeps nothing of its own between calls, allocates
- * nothing, and uses from outside at most memcpy, memset and memmove. Of the stack mileage_deliver uses at most 1,024 bytes
- * in engine B and 8,192 in engine R, every other call at most 512 (measured on x86-64, not proved).
+ * and reading and writing logs and messages. Link libmileage.a, which is for x86-64 (System V calls); it keeps nothing of
+ * its own between calls, allocates nothing, and uses from outside at most memcpy, memset and memmove. Of the stack
+ * mileage_deliver uses at most 1,024 bytes in engine B and 8,192 in engine R, every other call at most 512 (measured, not
+ * proved).
  *
  * A buffer is passed as a pointer and then its length. The length counts elements: bytes of a log, an image or a message,
  * numbers of a fields buffer. Each pointer must be valid for its length and not be null, `decision` for one number. The
  * buffers of one call, `decision` among them, must not overlap. Buffers passed as const are only read.
  *
- * Every call answers with a number: MILEAGE_ACCEPTED, or why it was turned down. Lengths are looked at first; of several
+ * Every call but mileage_version answers with a number: MILEAGE_ACCEPTED, or why it was turned down. Lengths are looked at first; of several
  * reasons the lowest number is given. After a refusal log and image are as they were, and an output buffer of 18 bytes is
  * all zeros; one of another length is as it was.
  */
@@ -22,6 +23,15 @@
 extern "C" {
 #endif
 
+/*
+ * The version of this header. mileage_version gives the archive's; it changes with every change of bytes, sizes, numbers
+ * or signatures. Firmware compares the two before its first call of anything else: where they differ, header and archive
+ * are not of one core, and nothing said here holds of the archive.
+ */
+#define MILEAGE_VERSION UINT32_C(1)
+
+uint32_t mileage_version(void);
+
 /* Lengths, in elements. */
 #define MILEAGE_LOG_LENGTH 20
 #define MILEAGE_LOG_FIELDS 8
@@ -29,8 +39,16 @@ extern "C" {
 #define MILEAGE_MESSAGE_LENGTH 18
 #define MILEAGE_MESSAGE_FIELDS 9
 
-/* A mileage is 0 to 9,999,999, in hundred-metre steps. What stands where there is none: blank, nothing yet; split, the
- * CHECKs gathered were not of one mileage. */
+/* Limits: n, the units of a bike, numbered from 0; the entry, one for each service; the round, from 0; the mileage, from
+ * 0, in hundred-metre steps. */
+#define MILEAGE_MIN_UNITS UINT32_C(3)
+#define MILEAGE_MAX_UNITS UINT32_C(16)
+#define MILEAGE_MIN_ENTRY UINT32_C(1)
+#define MILEAGE_MAX_ENTRY UINT32_C(9999)
+#define MILEAGE_MAX_ROUND UINT32_C(9999)
+#define MILEAGE_MAX_MILEAGE UINT32_C(9999999)
+
+/* What stands where there is no mileage: blank, nothing yet; split, the CHECKs gathered were not of one mileage. */
 #define MILEAGE_BLANK UINT32_C(4294967295)
 #define MILEAGE_SPLIT UINT32_C(4294967294)
 
@@ -41,7 +59,7 @@ extern "C" {
  * The numbers that the calls below answer with.
  * 1: a buffer's length is wrong. 2: the log is malformed, or the settings of a fresh unit are out of range. 3: the image
  * is malformed or does not fit the log. 4: the message is malformed. 5: the message is of another engine, n or entry, or
- * for another unit. 6: the mileage is above 9,999,999. 7: this SECOND would close round 9,999, and there is no next one.
+ * for another unit. 6: the mileage is above the greatest. 7: this SECOND would close the last round, 9,999.
  */
 #define MILEAGE_ACCEPTED UINT32_C(0)
 #define MILEAGE_WRONG_LENGTH UINT32_C(1)
@@ -108,7 +126,7 @@ uint32_t mileage_deliver(uint8_t *log, size_t log_len, uint8_t *image, size_t im
  * Logs and messages as numbers, for tools, for tests, and to learn a message's entry. A log or message that was made here
  * must not be lent as a unit's log or put on the bus.
  *
- * Engine letter: 'B' or 'R'. n, the units: 3 to 16. A unit: below n. Entry: 1 to 9,999. Round: 0 to 9,999.
+ * Engine letter: 'B' or 'R'. n, entry and round: within the limits above. A unit: below n.
  * A log's proposal and first estimate: a mileage or blank. Its second estimate: a mileage, split or blank; in R blank.
  * Kind letter of a message: 'F' (FIRST), 'C' (CHECK, in B only), 'S' (SECOND), 'K' (SKIP). Receiver: a unit for K, else
  * MILEAGE_EVERYONE. F and C: estimate and proposal are the same mileage. S: estimate a mileage or, in B, split; proposal

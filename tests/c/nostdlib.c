@@ -1,7 +1,7 @@
 /*
  * A program without any library: it brings the three memory functions itself, and links nothing but the archive. It
- * starts three units, proposes, delivers until a mileage is decided, keys on, and reads and writes a log and a message.
- * Exit 0: all eight entries did as wanted.
+ * asks for the version, starts three units, proposes, delivers until a mileage is decided, keys on, and reads and writes a
+ * log and a message. Exit 0: all nine entries did as wanted.
  */
 #include "mileage.h"
 
@@ -88,7 +88,7 @@ int run(void);
 
 int run(void)
 {
-    int failed = play();
+    int failed = mileage_version() == MILEAGE_VERSION ? play() : 8;
 
     return failed != 0 ? failed : fields();
 }

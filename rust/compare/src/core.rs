@@ -1,6 +1,7 @@
 //! The verified core, behind one safe function for each C entry. All `unsafe` of the package stands here.
 
 extern "C" {
+    fn mileage_version() -> u32;
     fn mileage_start(
         engine: u32,
         n: u32,
@@ -57,6 +58,10 @@ extern "C" {
 // Each call below is sound for these reasons: a slice's pointer is valid for its length and not null, `decision` is a reference and so
 // valid for one number, what is lent at once does not overlap, and the archive keeps to the header: it touches nothing else, and only
 // reads what is passed as const.
+
+pub fn version() -> u32 {
+    unsafe { mileage_version() }
+}
 
 pub fn start(engine: u32, n: u32, unit: u32, entry: u32, log: &mut [u8], image: &mut [u8]) -> u32 {
     unsafe {

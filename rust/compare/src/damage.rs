@@ -2,7 +2,7 @@
 
 use crate::call::{Call, IMAGE, LOG, OUT};
 use crate::format::{self, estimate, get, put, put_mark, Field};
-use crate::format::{BLANK, CHECK_MARKS, MOST_MILEAGE, SECOND_MARKS, SPLIT};
+use crate::format::{BLANK, CHECK_MARKS, MAX_MILEAGE, SECOND_MARKS, SPLIT};
 use crate::random::Random;
 
 /// Numbers at each limit and one beyond, and some that are in range only if cut to one or two bytes.
@@ -20,7 +20,7 @@ fn other_number(number: u32, random: &mut Random) -> u32 {
         1 => number.wrapping_sub(1),
         2 => number.wrapping_add(random.one_of(&[256, 65536, 16_777_216])),
         3 => number ^ 1 << random.below(32),
-        4 => random.between(0, MOST_MILEAGE),
+        4 => random.between(0, MAX_MILEAGE),
         _ => random.one_of(&LIMITS),
     }
 }
@@ -91,7 +91,7 @@ fn damage_marks(call: &mut Call, random: &mut Random) {
     }
     let marks = random.one_of(&[CHECK_MARKS, SECOND_MARKS]);
     let unit = random.below(16);
-    let number = random.one_of(&[5, MOST_MILEAGE, MOST_MILEAGE + 1, SPLIT, BLANK]);
+    let number = random.one_of(&[5, MAX_MILEAGE, MAX_MILEAGE + 1, SPLIT, BLANK]);
     match random.below(4) {
         0 | 1 => put_mark(image, marks, unit, number),
         2 => put(image, estimate(marks, unit), number),

@@ -1,7 +1,7 @@
 //! Every entry on random, damaged and reachable contents: both sides must do the same, to the last byte.
 
 use crate::call::{Answer, Call, Entry, IMAGE, LOG, MESSAGE};
-use crate::format::{image_of, log_of, ACCEPTED, BLANK, MOST_MILEAGE};
+use crate::format::{image_of, log_of, ACCEPTED, BLANK, MAX_MILEAGE};
 use crate::generate;
 use crate::histories;
 use crate::random::Random;
@@ -98,7 +98,7 @@ fn every_mileage(pair: &Pair, random: &mut Random) -> Result<u32, String> {
     call.bytes[IMAGE].put(&image_of(record));
     let mut answers = [call.on(&pair.0), call.on(&pair.1)];
     let (mut count, mut accepted) = (0, 0);
-    for mileage in (0..MOST_MILEAGE + 100_000).chain(u32::MAX - 1_000..=u32::MAX) {
+    for mileage in (0..MAX_MILEAGE + 100_000).chain(u32::MAX - 1_000..=u32::MAX) {
         call.numbers[0] = mileage;
         call.on_again(&pair.0, &mut answers[0]);
         call.on_again(&pair.1, &mut answers[1]);
@@ -109,7 +109,7 @@ fn every_mileage(pair: &Pair, random: &mut Random) -> Result<u32, String> {
         count += 1;
         accepted += u32::from(answers[0].number == ACCEPTED);
     }
-    if accepted != MOST_MILEAGE + 1 {
+    if accepted != MAX_MILEAGE + 1 {
         return Err(format!("FAILED: {accepted} mileages are accepted"));
     }
     Ok(count)

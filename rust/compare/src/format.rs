@@ -9,11 +9,18 @@ macro_rules! constants {
 }
 
 constants! {
+    VERSION: u32 = 1;
     LOG_LENGTH: usize = 20;
     LOG_FIELDS: usize = 8;
     IMAGE_LENGTH: usize = 152;
     MESSAGE_LENGTH: usize = 18;
     MESSAGE_FIELDS: usize = 9;
+    MIN_UNITS: u32 = 3;
+    MAX_UNITS: u32 = 16;
+    MIN_ENTRY: u32 = 1;
+    MAX_ENTRY: u32 = 9_999;
+    MAX_ROUND: u32 = 9_999;
+    MAX_MILEAGE: u32 = 9_999_999;
     BLANK: u32 = 4_294_967_295;
     SPLIT: u32 = 4_294_967_294;
     EVERYONE: u32 = 255;
@@ -26,10 +33,6 @@ constants! {
     OUT_OF_RANGE: u32 = 6;
     LAST_ROUND: u32 = 7;
 }
-
-pub const MOST_MILEAGE: u32 = 9_999_999;
-pub const MOST_ROUND: u32 = 9_999;
-pub const MOST_ENTRY: u32 = 9_999;
 
 /// Where a number stands: its first byte and how many there are, the highest first.
 #[derive(Clone, Copy)]

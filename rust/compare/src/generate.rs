@@ -2,7 +2,7 @@
 
 use crate::call::{Call, Entry, ENTRIES, IMAGE, LOG, MESSAGE};
 use crate::damage::{damage, damage_length};
-use crate::format::{self, MOST_MILEAGE};
+use crate::format::{self, MAX_MILEAGE};
 use crate::random::Random;
 use crate::scene::{Contents, Pool, Scene};
 
@@ -29,7 +29,7 @@ pub fn call_of(entry: Entry, contents: &Contents, random: &mut Random) -> Call {
         let settings = format::fields(&contents.log, format::LOG);
         call.numbers.copy_from_slice(&settings[..4]);
     } else {
-        call.numbers[0] = random.between(0, MOST_MILEAGE);
+        call.numbers[0] = random.between(0, MAX_MILEAGE);
     }
     call
 }

@@ -3,7 +3,7 @@
 use crate::call::{Call, Entry, IMAGE, LOG, MESSAGE};
 use crate::format::{image_of, log_of, message_of, put_mark, quorum};
 use crate::format::{
-    ACCEPTED, BLANK, CHECK_MARKS, EVERYONE, LAST_ROUND, MOST_ROUND, SECOND_MARKS, SPLIT,
+    ACCEPTED, BLANK, CHECK_MARKS, EVERYONE, LAST_ROUND, MAX_ROUND, SECOND_MARKS, SPLIT,
 };
 use crate::histories;
 use crate::history::{Run, Tally};
@@ -28,10 +28,10 @@ struct Row {
 
 const CLOSING: Row = Row {
     name: "closes round 9,999",
-    round: MOST_ROUND,
+    round: MAX_ROUND,
     short: 1,
     kind: b'S',
-    message_round: MOST_ROUND,
+    message_round: MAX_ROUND,
     estimate: 5,
     again: false,
     number: LAST_ROUND,
@@ -64,16 +64,16 @@ fn rows() -> Vec<Row> {
             ..near("the same sender again")
         },
         Row {
-            round: MOST_ROUND - 1,
-            message_round: MOST_ROUND - 1,
+            round: MAX_ROUND - 1,
+            message_round: MAX_ROUND - 1,
             ..near("round 9,998 closes")
         },
         Row {
-            round: MOST_ROUND - 1,
+            round: MAX_ROUND - 1,
             ..near("a SECOND above")
         },
         Row {
-            message_round: MOST_ROUND - 1,
+            message_round: MAX_ROUND - 1,
             ..near("a SECOND below")
         },
         Row {
@@ -157,14 +157,14 @@ fn neighbours(pair: &Pair) -> Result<u64, String> {
 /// All in one round, or each in its own.
 fn late_setting(random: &mut Random) -> Setting {
     let mut setting = random_setting(random);
-    let one = random.between(9_990, MOST_ROUND);
+    let one = random.between(9_990, MAX_ROUND);
     let alike = random.chance(2, 3);
     setting.rounds = (0..setting.n)
         .map(|_| {
             if alike {
                 one
             } else {
-                random.between(9_990, MOST_ROUND)
+                random.between(9_990, MAX_ROUND)
             }
         })
         .collect();
@@ -177,7 +177,7 @@ fn histories(pair: &Pair, count: u64, random: &mut Random) -> Result<Tally, Stri
         histories::one(pair, &late_setting(random), random, &mut tally)?;
     }
     let seven = tally.numbers[LAST_ROUND as usize];
-    if seven == 0 || tally.greatest_round != MOST_ROUND || tally.decisions == 0 {
+    if seven == 0 || tally.greatest_round != MAX_ROUND || tally.decisions == 0 {
         return Err(format!(
             "never reached: 7 {seven}, greatest round {}, decisions {}",
             tally.greatest_round, tally.decisions
@@ -198,7 +198,7 @@ fn climb(pair: &Pair, engine: u8) -> Result<Tally, String> {
     let mut run = Run::new(pair, &setting, &mut tally)
         .map_err(|trouble| format!("FAILED at the start: {trouble}"))?;
     let mut next = 0;
-    for round in 0..=MOST_ROUND {
+    for round in 0..=MAX_ROUND {
         let sevens = tally.numbers[LAST_ROUND as usize];
         climb_round(&mut run, round, &mut next, &mut tally)
             .map_err(|trouble| format!("FAILED in round {round} of a climb: {trouble}"))?;
@@ -206,14 +206,14 @@ fn climb(pair: &Pair, engine: u8) -> Result<Tally, String> {
             .world
             .units
             .iter()
-            .all(|unit| unit.round() == MOST_ROUND.min(round + 1));
-        if !closed || (tally.numbers[LAST_ROUND as usize] > sevens) != (round == MOST_ROUND) {
+            .all(|unit| unit.round() == MAX_ROUND.min(round + 1));
+        if !closed || (tally.numbers[LAST_ROUND as usize] > sevens) != (round == MAX_ROUND) {
             return Err(format!(
                 "FAILED: round {round} of a climb does not close, or 9,999 does"
             ));
         }
     }
-    if tally.decisions != 3 * u64::from(MOST_ROUND) {
+    if tally.decisions != 3 * u64::from(MAX_ROUND) {
         return Err(format!(
             "FAILED: a round of a climb did not decide: {} decisions",
             tally.decisions

@@ -1,6 +1,6 @@
 //! Events at random: messages lost, copied, delayed and out of order, cuts, key-offs, proposals, calls with arbitrary buffers.
 
-use crate::format::{get, BLANK, EVERYONE, MOST_MILEAGE, RECEIVER, SENDER, SPLIT};
+use crate::format::{get, BLANK, EVERYONE, MAX_MILEAGE, RECEIVER, SENDER, SPLIT};
 use crate::history::{Run, Tally};
 use crate::random::Random;
 use crate::trouble::Trouble;
@@ -35,7 +35,7 @@ impl Manner {
             propose: random.one_of(&[1, 4, 10]),
             stray: random.one_of(&[0, 0, 2, 10]),
             patience: random.one_of(&[2, 5, 20]),
-            mileages: std::array::from_fn(|_| random.between(0, MOST_MILEAGE)),
+            mileages: std::array::from_fn(|_| random.between(0, MAX_MILEAGE)),
             next: vec![0; n as usize],
         }
     }
@@ -86,7 +86,7 @@ impl Manner {
         if !run.world.units[unit as usize].up && random.chance(1, 3) {
             self.key_on(run, unit, random, tally)
         } else if choice < self.propose {
-            let wrong = random.one_of(&[MOST_MILEAGE + 1, SPLIT, BLANK]);
+            let wrong = random.one_of(&[MAX_MILEAGE + 1, SPLIT, BLANK]);
             let mileage = if random.chance(1, 50) {
                 wrong
             } else {

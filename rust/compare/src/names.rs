@@ -1,7 +1,7 @@
-//! The header's prototypes and constants, the `extern "C"` block of core.rs and the archive's exported names, compared.
+//! The header's prototypes and constants, the `extern "C"` block of core.rs, the archive's exported names and its version, compared.
 
-use crate::format::CONSTANTS;
-use crate::places;
+use crate::format::{CONSTANTS, VERSION};
+use crate::{core, places};
 use std::process::Command;
 
 /// A function: its name, its parameters' names and types, and what it returns; types as Rust writes them.
@@ -64,7 +64,7 @@ fn rust_parameter(text: &str) -> (String, String) {
 fn parameters(text: &str, one: fn(&str) -> (String, String)) -> Vec<(String, String)> {
     text.split(',')
         .map(str::trim)
-        .filter(|part| !part.is_empty())
+        .filter(|part| !part.is_empty() && *part != "void")
         .map(one)
         .collect()
 }
@@ -179,7 +179,7 @@ pub fn differences(header: &str, source: &str, listing: &str) -> Vec<String> {
     found
 }
 
-/// All three as they stand: a summary, or what differs.
+/// All as they stand: a summary, or what differs.
 pub fn check() -> Result<String, String> {
     let header = std::fs::read_to_string(places::header())
         .map_err(|error| format!("include/mileage.h: {error}"))?;
@@ -191,6 +191,12 @@ pub fn check() -> Result<String, String> {
     if !listing.status.success() {
         return Err(format!("nm: {}", String::from_utf8_lossy(&listing.stderr)));
     }
+    if core::version() != VERSION {
+        return Err(format!(
+            "the archive's version is {}, ours {VERSION}",
+            core::version()
+        ));
+    }
     let found = differences(
         &header,
         include_str!("core.rs"),
@@ -199,7 +205,7 @@ pub fn check() -> Result<String, String> {
     if found.is_empty() {
         let entries = header_prototypes(&header).len();
         Ok(format!(
-            "{entries} entries and {} constants agree in header, core.rs and archive",
+            "{entries} entries and {} constants agree in header, core.rs and archive, version {VERSION}",
             CONSTANTS.len()
         ))
     } else {

@@ -1,7 +1,7 @@
 //! Scripts that mean something, made by playing them along: which messages there are, who is down, who heard what.
 
 use crate::call::{IMAGE, LOG};
-use crate::format::{get, EVERYONE, MOST_MILEAGE, RECEIVER};
+use crate::format::{get, EVERYONE, MAX_MILEAGE, RECEIVER};
 use crate::listed::{one_of, BAD_LINES};
 use crate::random::Random;
 use crate::side::INDEPENDENT;
@@ -32,8 +32,8 @@ pub struct Play<'a> {
 
 fn new_mileage(random: &mut Random) -> u32 {
     match random.below(3) {
-        0 => random.below(MOST_MILEAGE + 1),
-        _ => random.one_of(&[0, 1, 5, 412_077, MOST_MILEAGE]),
+        0 => random.below(MAX_MILEAGE + 1),
+        _ => random.one_of(&[0, 1, 5, 412_077, MAX_MILEAGE]),
     }
 }
 

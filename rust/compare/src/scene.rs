@@ -4,7 +4,7 @@ use crate::format::{
     self, image_of, is_marked, log_of, marks_of, message_of, put_mark, quorum, Field,
 };
 use crate::format::{
-    BLANK, CHECK_MARKS, EVERYONE, MOST_ENTRY, MOST_MILEAGE, MOST_ROUND, SECOND_MARKS, SPLIT,
+    BLANK, CHECK_MARKS, EVERYONE, MAX_ENTRY, MAX_MILEAGE, MAX_ROUND, SECOND_MARKS, SPLIT,
 };
 use crate::random::Random;
 
@@ -50,18 +50,18 @@ impl Scene {
     pub fn new(random: &mut Random) -> Scene {
         let (any, few) = (random.between(3, 16), 3 + random.below(3));
         let n = random.either((1, 2), any, few);
-        let mut mileages = [random.between(0, MOST_MILEAGE); 3];
+        let mut mileages = [random.between(0, MAX_MILEAGE); 3];
         for mileage in &mut mileages[1..] {
-            let other = random.between(0, MOST_MILEAGE);
+            let other = random.between(0, MAX_MILEAGE);
             *mileage = random.either((1, 2), *mileage, other);
         }
-        let often = random.one_of(&[0, 1, 255, 256, MOST_ROUND - 1, MOST_ROUND, MOST_ROUND]);
-        let any_round = random.between(0, MOST_ROUND);
+        let often = random.one_of(&[0, 1, 255, 256, MAX_ROUND - 1, MAX_ROUND, MAX_ROUND]);
+        let any_round = random.between(0, MAX_ROUND);
         Scene {
             engine: random.one_of(b"BR"),
             n,
             unit: random.below(n),
-            entry: random.between(1, MOST_ENTRY),
+            entry: random.between(1, MAX_ENTRY),
             round: random.either((2, 3), often, any_round),
             mileages,
         }
@@ -138,8 +138,8 @@ impl Scene {
         match random.below(10) {
             0 if self.round > 0 => random.one_of(&[self.round - 1, 0]),
             1 if self.round > 0 => random.below(self.round),
-            2 if self.round < MOST_ROUND => random.one_of(&[self.round + 1, MOST_ROUND]),
-            3 if self.round < MOST_ROUND => random.between(self.round + 1, MOST_ROUND),
+            2 if self.round < MAX_ROUND => random.one_of(&[self.round + 1, MAX_ROUND]),
+            3 if self.round < MAX_ROUND => random.between(self.round + 1, MAX_ROUND),
             _ => self.round,
         }
     }

@@ -17,7 +17,8 @@ fn listing(names: &[&str]) -> String {
         .collect()
 }
 
-const NAMES: [&str; 8] = [
+const NAMES: [&str; 9] = [
+    "mileage_version",
     "mileage_start",
     "mileage_key_on",
     "mileage_propose",
@@ -76,6 +77,8 @@ fn another_prototype_is_found() {
 #[test]
 fn another_constant_is_found() {
     assert_found("MILEAGE_IMAGE_LENGTH 152", "MILEAGE_IMAGE_LENGTH 153");
+    assert_found("MILEAGE_VERSION UINT32_C(1)", "MILEAGE_VERSION UINT32_C(2)");
+    assert_found("#define MILEAGE_MAX_MILEAGE UINT32_C(9999999)", "");
     assert_found("UINT32_C(4294967294)", "UINT32_C(4294967293)");
     assert_found("#define MILEAGE_LAST_ROUND UINT32_C(7)", "");
     assert_found(

@@ -55,7 +55,7 @@ const QUORUM_TOO_LOW: Deliver = |log, image, message, out, decision| {
     let (sender, n) = (get(message, SENDER), u32::from(image[1]));
     if count(image, marks) + 1 == quorum(image[0], n)
         && is_marked(image, marks, sender)
-        && get(image, ROUND) < MOST_ROUND
+        && get(image, ROUND) < MAX_ROUND
     {
         let mut other = message.to_vec();
         let unmarked = (0..n)
