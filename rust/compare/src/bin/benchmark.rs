@@ -1,5 +1,6 @@
 //! Times the core and the independent implementation side by side; nothing is asserted on times.
 //! `benchmark`: the table. `benchmark --count SIDE CASE N`: exactly N calls of one case, to be counted by another program.
+//! `benchmark --script`: the script that the bench is timed with, on standard output.
 
 use compare::cases::{all, Case, Room};
 use compare::made::longest;
@@ -14,10 +15,10 @@ use std::time::Instant;
 
 const SAMPLES: usize = 101;
 const CALLS: u64 = 2_000;
-const PROCESSES: usize = 41;
+const PROCESSES: usize = 201;
 /// Where this is set in its environment, this program is the independent bench: a script in, its listing out.
 const PLAYS: &str = "BENCHMARK_PLAYS";
-const USAGE: &str = "benchmark [--count core|independent|copy CASE N]";
+const USAGE: &str = "benchmark [--script | --count core|independent|copy CASE N]";
 
 /// The median of each of these, in nanoseconds; one after the other in every sample.
 fn medians(samples: usize, runs: &mut [&mut dyn FnMut()]) -> Vec<f64> {
@@ -96,6 +97,10 @@ fn time_processes(program: &Path, player: &Path, script: &[u8]) -> Result<Vec<f6
     }
 }
 
+fn timed_script() -> Vec<u8> {
+    longest(&mut Random::new(412_077))
+}
+
 fn bench_table() -> Result<(), String> {
     let program = places::program();
     let player = std::env::current_exe().map_err(|error| error.to_string())?;
@@ -106,7 +111,7 @@ fn bench_table() -> Result<(), String> {
             program.display()
         ));
     }
-    let script = longest(&mut Random::new(412_077));
+    let script = timed_script();
     let lines = script.iter().filter(|&&byte| byte == b'\n').count() as f64 - 1.0;
     let (empty, long) = (
         time_processes(&program, &player, b"")?,
@@ -188,6 +193,9 @@ fn run() -> Result<(), String> {
     match words.split_first() {
         None => calls_table().and_then(|()| bench_table()),
         Some((word, rest)) if word == "--count" => count(rest),
+        Some((word, [])) if word == "--script" => std::io::stdout()
+            .write_all(&timed_script())
+            .map_err(|error| error.to_string()),
         _ => Err(USAGE.to_string()),
     }
 }
