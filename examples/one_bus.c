@@ -26,7 +26,7 @@ struct unit {
     uint8_t permanent[MILEAGE_LOG_LENGTH]; /* the log: outlives the key; never lent itself, but as a copy */
     uint8_t image[MILEAGE_IMAGE_LENGTH];   /* working memory: lost with the key */
     bool cut;                              /* the key goes off before its next message leaves */
-    uint32_t decision;
+    uint32_t decision;                     /* firmware's to keep, as it keeps the log */
 };
 
 static struct unit units[UNITS] = {{.name = "dash 1"}, {.name = "dash 2"}, {.name = "brake box"}};
@@ -77,6 +77,7 @@ static void load_log(const struct unit *unit, uint8_t *log)
     memcpy(log, unit->permanent, MILEAGE_LOG_LENGTH);
 }
 
+/* In firmware as one piece: after a key-off the old log or the new one stands. */
 static void save_log(struct unit *unit, const uint8_t *log)
 {
     memcpy(unit->permanent, log, MILEAGE_LOG_LENGTH);

@@ -39,23 +39,23 @@ int main(void)
     want("the version", mileage_version(), MILEAGE_VERSION);
 
     want("least n", proposed(MILEAGE_MIN_UNITS, 7, 5), MILEAGE_ACCEPTED);
-    want("below it", proposed(MILEAGE_MIN_UNITS - 1, 7, 5), MILEAGE_MALFORMED_LOG);
+    want("below the least n", proposed(MILEAGE_MIN_UNITS - 1, 7, 5), MILEAGE_MALFORMED_LOG);
     want("greatest n", proposed(MILEAGE_MAX_UNITS, 7, 5), MILEAGE_ACCEPTED);
-    want("above it", proposed(MILEAGE_MAX_UNITS + 1, 7, 5), MILEAGE_MALFORMED_LOG);
+    want("above the greatest n", proposed(MILEAGE_MAX_UNITS + 1, 7, 5), MILEAGE_MALFORMED_LOG);
     want("the last unit", written(MILEAGE_MAX_UNITS, MILEAGE_MAX_UNITS - 1, 7, 0, 5), MILEAGE_ACCEPTED);
-    want("one more", written(MILEAGE_MAX_UNITS, MILEAGE_MAX_UNITS, 7, 0, 5), MILEAGE_MALFORMED_LOG);
+    want("past the last unit", written(MILEAGE_MAX_UNITS, MILEAGE_MAX_UNITS, 7, 0, 5), MILEAGE_MALFORMED_LOG);
 
     want("least entry", proposed(3, MILEAGE_MIN_ENTRY, 5), MILEAGE_ACCEPTED);
-    want("below it", proposed(3, MILEAGE_MIN_ENTRY - 1, 5), MILEAGE_MALFORMED_LOG);
+    want("below the least entry", proposed(3, MILEAGE_MIN_ENTRY - 1, 5), MILEAGE_MALFORMED_LOG);
     want("greatest entry", proposed(3, MILEAGE_MAX_ENTRY, 5), MILEAGE_ACCEPTED);
-    want("above it", proposed(3, MILEAGE_MAX_ENTRY + 1, 5), MILEAGE_MALFORMED_LOG);
+    want("above the greatest entry", proposed(3, MILEAGE_MAX_ENTRY + 1, 5), MILEAGE_MALFORMED_LOG);
 
     want("last round", written(3, 0, 7, MILEAGE_MAX_ROUND, 5), MILEAGE_ACCEPTED);
-    want("past it", written(3, 0, 7, MILEAGE_MAX_ROUND + 1, 5), MILEAGE_MALFORMED_LOG);
+    want("past the last round", written(3, 0, 7, MILEAGE_MAX_ROUND + 1, 5), MILEAGE_MALFORMED_LOG);
 
     want("greatest mileage", proposed(3, 7, MILEAGE_MAX_MILEAGE), MILEAGE_ACCEPTED);
-    want("above it", proposed(3, 7, MILEAGE_MAX_MILEAGE + 1), MILEAGE_OUT_OF_RANGE);
-    want("in a log", written(3, 0, 7, 0, MILEAGE_MAX_MILEAGE), MILEAGE_ACCEPTED);
-    want("above it in a log", written(3, 0, 7, 0, MILEAGE_MAX_MILEAGE + 1), MILEAGE_MALFORMED_LOG);
+    want("above the greatest mileage", proposed(3, 7, MILEAGE_MAX_MILEAGE + 1), MILEAGE_OUT_OF_RANGE);
+    want("greatest mileage in a log", written(3, 0, 7, 0, MILEAGE_MAX_MILEAGE), MILEAGE_ACCEPTED);
+    want("above the greatest mileage in a log", written(3, 0, 7, 0, MILEAGE_MAX_MILEAGE + 1), MILEAGE_MALFORMED_LOG);
     return failed;
 }

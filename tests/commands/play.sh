@@ -51,7 +51,7 @@ listed "a script through a pipe" scripts/clean_close_r
 
 # A hint beside the listing: which bytes, and what is said.
 hinted() {
-    printf "$1" >"$work/script"
+    printf %b "$1" >"$work/script"
     played 0 "$2" "$work/script"
     listed "$2" "$work/script"
     if [ -n "$2" ]; then said "the script $1" "$2"; else silent "the script $1"; fi
@@ -78,8 +78,18 @@ for word in -h --help; do
     silent "$word"
 done
 played 2 "two scripts" scripts/clean_close_b scripts/clean_close_r
+said "two scripts" 'one script at a time'
 said "two scripts" 'play [SCRIPT]'
 played 2 "an unknown option" --listing
+said "an unknown option" 'unknown option: --listing'
+played 1 "a name after --" -- -h
+said "a name after --" 'no such script: -h'
+cp scripts/clean_close_b "$work/a name with blanks"
+played 0 "a name with blanks" "$work/a name with blanks"
+listed "a name with blanks" scripts/clean_close_b
+status=0
+./play --help >/dev/full 2>"$work/err" || status=$?
+[ "$status" -eq 1 ] || wrong "help on a full disk: status $status"
 played 1 "no script" "$work/nothing"
 said "no script" 'no such script'
 played 1 "a folder" scripts
@@ -99,37 +109,94 @@ said "a full disk" 'not written whole'
 [ "$(cat "$work/status")" = 1 ] || wrong "a closed pipe: status $(cat "$work/status")"
 said "a closed pipe" 'not written whole'
 
-# It builds what is missing, with another rt: the prover's lines are shown, and how long it takes is said once.
-mkdir -p "$work/root/crates" "$work/path"
-cp play "$work/root/play"
-: >"$work/root/crates.txt"
+# Builds, in a tree of its own with another rt. It prints a line, and waits where it is told to until the line was seen; it can fail, build nothing,
+# or end well without a word.
+tree=$work/tree
+mkdir -p "$tree/crates" "$work/path" "$work/temporary"
+cp play "$tree/play"
+: >"$tree/crates.txt"
 cat >"$work/path/rt" <<RT
 #!/bin/sh
+cat >/dev/null
+[ "\$*" = "check mileage_bench" ] || exit 7
+[ ! -e "$work/mute" ] || exec >/dev/null
 echo "library std: modules loaded=0"
 echo "rt: tally proved (7 s)"
-[ ! -e "$work/broken" ] || { echo "rt: FAILED: tally"; exit 1; }
-mkdir -p target/bin && cp "$PWD/$program" target/bin/mileage_bench
+for i in 1 2 3 4 5 6 7 8 9; do [ ! -e "$work/wait" ] || sleep 1; done
+[ ! -e "$work/broken" ] || { echo "error: it is not so" >&2; echo "rt: FAILED: tally"; exit 1; }
+[ -e "$work/nothing" ] || { mkdir -p target/bin && cp "$PWD/$program" target/bin/mileage_bench; }
 RT
 chmod +x "$work/path/rt"
+# build STATUS NAME: plays a script on standard input
 build() {
-    status=0
-    PATH=$work/path:$PATH "$work/root/play" scripts/clean_close_b >"$work/out" 2>"$work/err" || status=$?
+    local status=0
+    TMPDIR=$work/temporary PATH=$work/path:$PATH "$tree/play" <scripts/clean_close_b >"$work/out" 2>"$work/err" || status=$?
+    [ "$status" -eq "$1" ] || wrong "$2: status $status, wanted $1: $(cat "$work/err")"
+    [ "$1" -ne 0 ] || listed "$2" scripts/clean_close_b
+    [ -z "$(ls -A "$work/temporary")" ] || wrong "$2: a temporary file is left"
 }
 touch "$work/broken"
-build
-[ "$status" -eq 1 ] || wrong "a build that fails: status $status"
+build 1 "a build that fails"
+said "a build that fails" 'error: it is not so'
 said "a build that fails" 'rt: FAILED: tally'
 said "a build that fails" 'was not built'
 rm "$work/broken"
-build
-[ "$status" -eq 0 ] || wrong "a build: status $status"
-listed "a build" scripts/clean_close_b
+touch "$work/nothing"
+build 1 "a build of nothing"
+said "a build of nothing" 'built no bench program'
+rm "$work/nothing"
+build 0 "a build"
 said "a build" 'rt: tally proved (7 s)'
 [ "$(grep -c 'minutes' "$work/err")" -eq 1 ] || wrong "a build: how long it takes is not said once"
-! grep -q 'modules loaded' "$work/err" || wrong "a build: more than the prover's lines is shown"
-build
+! grep -q 'modules loaded' "$work/err" || wrong "a build: more than the prover's own lines is shown"
+build 0 "a second time"
 silent "a second time"
-listed "a second time" scripts/clean_close_b
+
+# Older than a source: it builds again, and once only, also where rt finds nothing to do.
+touch -d '1 hour ago' "$tree/target/bin/mileage_bench"
+touch "$work/nothing"
+build 0 "an older program"
+said "an older program" 'building the bench program'
+build 0 "an older program, once more"
+silent "an older program, once more"
+rm -f "$work/nothing" "$tree/target/bin/mileage_bench"
+touch "$work/mute"
+build 0 "a build without a word"
+rm -f "$work/mute" "$tree/target/bin/mileage_bench"
+
+# The prover's lines come while it builds.
+touch "$work/wait"
+build 0 "a build that takes long" &
+for ((i = 0; i < 50; i++)); do
+    ! grep -qs 'rt: tally proved' "$work/err" || break
+    sleep 0.1
+done
+seen=0
+[ -x "$tree/target/bin/mileage_bench" ] || ! grep -qs 'rt: tally proved' "$work/err" || seen=1
+rm "$work/wait"
+wait
+[ "$seen" -eq 1 ] || wrong "the prover's lines are not shown while it builds"
+
+# Called through a link, from another folder; and without rt.
+ln -s "$tree/play" "$work/link"
+(cd / && "$work/link" "$OLDPWD/scripts/clean_close_b") >"$work/out" 2>"$work/err" || wrong "through a link: $(cat "$work/err")"
+listed "through a link" scripts/clean_close_b
+rm "$tree/target/bin/mileage_bench"
+mkdir "$work/bare"
+for tool in bash cat dirname find grep head mktemp readlink rm tail tee touch tr wc; do ln -s "$(command -v "$tool")" "$work/bare/$tool"; done
+status=0
+PATH=$work/bare "$tree/play" scripts/clean_close_b >"$work/out" 2>"$work/err" || status=$?
+[ "$status" -eq 1 ] || wrong "without rt: status $status"
+said "without rt" 'rt is not on PATH'
+
+# A program that ends otherwise than with 0.
+mkdir -p "$tree/target/bin"
+printf '#!/bin/sh\nexit 3\n' >"$tree/target/bin/mileage_bench"
+chmod +x "$tree/target/bin/mileage_bench"
+status=0
+"$tree/play" scripts/clean_close_b >"$work/out" 2>"$work/err" || status=$?
+[ "$status" -eq 1 ] || wrong "a program that fails: status $status"
+said "a program that fails" 'ended with status 3'
 
 [ "$failed" -eq 0 ] || exit 1
 echo "play.sh: listings, hints, help, wrong use, a full disk, a closed pipe and builds are as wanted"

@@ -26,7 +26,7 @@ use Rattle.bench_text.specs.declared.ListingLine.{ListingLine}
 use Rattle.bench_text.specs.declared.Shown.{Shown}
 use Rattle.bench_text.proofs.Digits.{digits-most, digits-short}
 use Rattle.bench.specs.Listing.{lineOf, lineWith, linesText, headerLine, malformedLine, malformedText}
-use Rattle.bench.specs.InnerTurns.{eventsFrom, restText}
+use Rattle.bench.specs.InnerLines.{eventsFrom, restText}
 use Rattle.bench.specs.Widths.{indexWidth, keptWidth, headerWidth, malformedWidth, endWidth, maxListing}
 use Rattle.bench.proofs.Rest.{malformed-line}
 

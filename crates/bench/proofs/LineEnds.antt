@@ -11,7 +11,7 @@ use Rattle.script.specs.Script.{eventOf, unended, eventsOf}
 use Rattle.script.specs.declared.ScriptEvent.{ScriptEvent}
 use Rattle.script.proofs.EventLines.{event-unit}
 use Rattle.script.proofs.Parting.{from-there, before-le, parted-there, parted-none, parted-some}
-use Rattle.bench.specs.InnerTurns.{eventsFrom, LineAt}
+use Rattle.bench.specs.InnerLines.{eventsFrom, LineAt}
 
 -- a part after another is one more line
 pub events-line : (n c : ℕ) (p s : List ℕ) → eventsOf n (p ∷ parted c s) ≡ eventOf n p ∷ eventsOf n (parted c s)

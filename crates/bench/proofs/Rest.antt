@@ -13,13 +13,13 @@ use Rattle.bench_play.specs.Bench.{LineAnswer}
 use Rattle.bench_play.specs.Play.{answer, play, benchAfter}
 use Rattle.bench_play.specs.declared.Bench.{Bench}
 use Rattle.bench_play.proofs.Settled.{answer-line}
-use Rattle.bench_turns.specs.declared.Outcome.{Outcome}
+use Rattle.bench_turns.specs.declared.LineOutcome.{LineOutcome}
 use Rattle.bench_turns.proofs.Turns.{Turned}
 use Rattle.bench_text.specs.Text.{lineText, endText}
 use Rattle.bench_text.specs.InnerText.{Puts}
 use Rattle.bench_text.proofs.Appending.{sets-append, room-first}
 use Rattle.bench.specs.Listing.{lineOf, lineWith, linesText, malformedLine}
-use Rattle.bench.specs.InnerTurns.{eventsFrom, restText, LineAt}
+use Rattle.bench.specs.InnerLines.{eventsFrom, restText, LineAt}
 use Rattle.bench.specs.declared.turns.LineRead.{LineRead}
 use Rattle.bench.proofs.LineEnds.{events-end}
 
@@ -29,7 +29,7 @@ unfolding lineOf lineWith malformedLine
 malformed-line l b i = rw (answer-line l b)
 
 -- the line of what came of a turn
-pub line-turned : (i : ℕ) {l : Limits} {b : Bench} {e : ScriptEvent} {u : ℕ} {a : Answer} {o : Outcome} → Turned l b e u a o
+pub line-turned : (i : ℕ) {l : Limits} {b : Bench} {e : ScriptEvent} {u : ℕ} {a : Answer} {o : LineOutcome} → Turned l b e u a o
     → lineWith i e (o .refusal) (o .sent) (o .decision) ≡ lineOf i e (answer l b e)
 unfolding lineOf
 line-turned i {l} {b} {e} t = ap (λ (r : LineAnswer). lineWith i e (r .refusal) (r .sent) (r .decision)) (t .same)

@@ -22,7 +22,7 @@ use Rattle.script.proofs.Parting.{parted-there, parted-none, parted-some}
 use Rattle.bench_play.specs.Bench.{start}
 use Rattle.bench_text.specs.InnerText.{Puts}
 use Rattle.bench.specs.Listing.{headerLine, playedText, malformedText, scriptText, listing, PrintAnswer, printed, over, listingCall}
-use Rattle.bench.specs.InnerTurns.{eventsFrom, restText}
+use Rattle.bench.specs.InnerLines.{eventsFrom, restText}
 use Rattle.bench.specs.Widths.{maxListing}
 use Rattle.bench.proofs.Lengths.{played-length, malformed-length}
 

@@ -1,3 +1,3 @@
 pub mod Listing
-pub mod InnerTurns
+pub mod InnerLines
 pub mod Widths

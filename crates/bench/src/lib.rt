@@ -18,7 +18,7 @@ ghost use Rattle.bench_play.specs.Bench.{start};
 ghost use Rattle.script.specs.Script.{inRanges};
 ghost use Rattle.bench_text.specs.InnerText.{Puts};
 ghost use Rattle.bench.specs.Listing.{headerLine, malformedText, listing, printed, listingCall};
-ghost use Rattle.bench.specs.InnerTurns.{eventsFrom, restText};
+ghost use Rattle.bench.specs.InnerLines.{eventsFrom, restText};
 ghost use Rattle.bench.specs.Widths.{maxListing};
 
 // The most bytes of a header, a malformed line and the final line, as specs/Widths.antt adds them up.

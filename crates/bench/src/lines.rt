@@ -3,7 +3,7 @@ use bench_play::Sent;
 use bench_script::events;
 use bench_text::ListingLine;
 use bench_text::Shown;
-use bench_turns::Outcome;
+use bench_turns::LineOutcome;
 use script::ScriptEvent;
 use tally::Estimate;
 use tally::Refusal;
@@ -43,12 +43,12 @@ fn decision_shown(d: Estimate) -> Shown
 }
 
 // The line of an event and what came of it.
-pub(crate) fn listing_line(index: u32, e: ScriptEvent, o: Outcome) -> ListingLine
-    ensures { λ r. ⌜ r ≡ lineWith index e (o .refusal) (o .sent) (o .decision) ⌝ }
+pub(crate) fn listing_line(index: u32, e: ScriptEvent, outcome: LineOutcome) -> ListingLine
+    ensures { λ r. ⌜ r ≡ lineWith index e (outcome .refusal) (outcome .sent) (outcome .decision) ⌝ }
 {
-    let refusal = o.refusal;
-    let sent = o.sent;
-    let decision = o.decision;
+    let refusal = outcome.refusal;
+    let sent = outcome.sent;
+    let decision = outcome.decision;
     ListingLine {
         index,
         letter: events::event_letter(e),

@@ -9,7 +9,7 @@ ghost use lib.ListN.{length};
 ghost use Rattle.tally.specs.Limits.{today, scriptSize, senders};
 ghost use Rattle.bench_play.specs.Bench.{start};
 ghost use Rattle.bench_text.specs.InnerText.{Puts};
-ghost use Rattle.bench.specs.InnerTurns.{eventsFrom, restText, LineAt};
+ghost use Rattle.bench.specs.InnerLines.{eventsFrom, restText, LineAt};
 
 // A line's event, and where the next line begins.
 pub struct LineRead {
@@ -36,7 +36,8 @@ fn line_at(n: u8, script: &[u8], p: usize) -> LineRead
     }
 }
 
-// The listing of all lines from byte `from` on, and the final line.
+// The listing of all lines from byte `from` on, and the final line. The bench stays where it is: of it a line reads one unit and one message, and
+// stores one unit and one message.
 pub(crate) fn put_events(
     script: &[u8],
     from: usize,
@@ -62,16 +63,16 @@ pub(crate) fn put_events(
         let k = bench_turns::event_place(event) as usize;
         let unit = b.units[u];
         let m = b.messages[k];
-        let a = bench_turns::turn(unit, b.kept, m, event);
-        let o = bench_turns::outcome_of(b.kept, a);
-        at = bench_text::put_line(out, at, lines::listing_line(i + 1, event, o));
-        let refusal = o.refusal;
+        let answer = bench_turns::turn(unit, b.kept, m, event);
+        let outcome = bench_turns::outcome_of(b.kept, answer);
+        at = bench_text::put_line(out, at, lines::listing_line(i + 1, event, outcome));
+        let refusal = outcome.refusal;
         if tally::number(refusal) == 0 {
-            let next = a.unit;
+            let next = answer.unit;
             b.units[u] = next;
-            let sent = o.sent;
-            if bench_turns::sends(sent) {
-                let message = a.message;
+            let sent = outcome.sent;
+            if bench_turns::is_sent(sent) {
+                let message = answer.message;
                 let place = b.kept as usize;
                 b.messages[place] = message;
                 b.kept += 1;

@@ -1,4 +1,4 @@
-// The bench by value: units and message places. What events make of it is in specs/; crate bench_turns has the code of one event.
+// The bench: units and message places. What events make of it is in specs/; crate bench_turns has the code of one event.
 use consensus::Unit;
 use contents::Message;
 use tally::limits;

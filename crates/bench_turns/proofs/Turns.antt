@@ -24,13 +24,13 @@ use Rattle.bench_play.specs.Bench.{LineAnswer, noUnit, unitAt, messageAt, noPla
 use Rattle.bench_play.specs.Play.{deliveryConditions, delivery, unitAnswer, answer}
 use Rattle.bench_play.specs.declared.Bench.{Bench}
 use Rattle.bench_play.proofs.Settled.{by-settle, by-answer, answer-line}
-use Rattle.bench_turns.specs.InnerTurns.{placeOr, eventPlace, delivered, turn, outcomeOf, sends}
-use Rattle.bench_turns.specs.declared.Outcome.{Outcome}
+use Rattle.bench_turns.specs.InnerTurns.{placeOrFirst, eventPlace, turnDelivery, turn, outcomeOf, isSent}
+use Rattle.bench_turns.specs.declared.LineOutcome.{LineOutcome}
 
 -- ---- the place of the message that an event takes
 
-place-or : (k : ℕ) → placeOr k < places
-place-or k = go (ltb k places) refl
+place-or-first : (k : ℕ) → placeOrFirst k < places
+place-or-first k = go (ltb k places) refl
   where
     go : (t : Bool) → ltb k places ≡ t → cond t k 0 < places
     go true e = ltb-true k places e
@@ -39,23 +39,23 @@ place-or k = go (ltb k places) refl
 pub place-below : (e : ScriptEvent) → eventPlace e < places
 place-below ScriptEvent.Malformed = omega arith
 place-below (ScriptEvent.Propose u v) = omega arith
-place-below (ScriptEvent.Deliver u k) = place-or k
-place-below (ScriptEvent.Cut u k) = place-or k
+place-below (ScriptEvent.Deliver u k) = place-or-first k
+place-below (ScriptEvent.Cut u k) = place-or-first k
 place-below (ScriptEvent.KeyOff u) = omega arith
 place-below (ScriptEvent.KeyOn u) = omega arith
 
 -- ---- what comes of an answer
 
--- unit u's answer a, of which o came, stored in the bench: nothing of what is refused
-abbrev pub stored : Bench → ℕ → Answer → Outcome → Bench
-stored b u a o =
+-- the bench after unit u's answer a, of which o came: as it was where that is a refusal
+abbrev afterTurn : Bench → ℕ → Answer → LineOutcome → Bench
+afterTurn b u a o =
     cond (eqb (numberOf (o .refusal)) 0)
-    (cond (sends (o .sent)) (withMessage (withUnit b u (a .unit)) (a .message)) (withUnit b u (a .unit)))
+    (cond (isSent (o .sent)) (withMessage (withUnit b u (a .unit)) (a .message)) (withUnit b u (a .unit)))
     b
 
--- .. and shown
-abbrev pub storedAnswer : Bench → ℕ → Answer → Outcome → LineAnswer
-storedAnswer b u a o = record { bench = stored b u a o; refusal = o .refusal; sent = o .sent; decision = o .decision }
+-- and what the line is answered
+abbrev pub lineAnswer : Bench → ℕ → Answer → LineOutcome → LineAnswer
+lineAnswer b u a o = record { bench = afterTurn b u a o; refusal = o .refusal; sent = o .sent; decision = o .decision }
 
 some-kind : (k : Kind) → (k ≡ Empty → ⊥) → isEmpty k ≡ false
 some-kind Empty some = absurd (some refl)
@@ -65,10 +65,10 @@ some-kind Second some = refl
 some-kind Skip some = refl
 
 -- it is what the bench makes of it
-settles : (b : Bench) (u : ℕ) (a : Answer) → storedAnswer b u a (outcomeOf (b .kept) a) ≡ settle b u a
+settles : (b : Bench) (u : ℕ) (a : Answer) → lineAnswer b u a (outcomeOf (b .kept) a) ≡ settle b u a
 unfolding outcomeOf noPlaceLeft
 settles b u a =
-    by-settle (λ r. storedAnswer b u a (outcomeOf (b .kept) a) ≡ r) b u a
+    by-settle (λ r. lineAnswer b u a (outcomeOf (b .kept) a) ≡ r) b u a
     (record {
       refuses = λ some. simp (ne-eqb _ _ some);
       quiet = λ ok empty. simp (eq-eqb _ _ ok, empty);
@@ -78,11 +78,11 @@ settles b u a =
 
 -- ---- a turn
 
--- where a message was not sent, none is looked at
-delivered-sent : (l : Limits) (b : Bench) (u k : ℕ) → b .kept ≤ places
-    → delivered l (unitAt b u) (b .kept) (messageAt b (placeOr k)) k ≡ delivery l b u k
-unfolding delivered delivery deliveryConditions unless firstOf
-delivered-sent l b u k h = go (ltb k places) refl
+-- where there is no message of that number, none is looked at
+unsent-unread : (l : Limits) (b : Bench) (u k : ℕ) → b .kept ≤ places
+    → turnDelivery l (unitAt b u) (b .kept) (messageAt b (placeOrFirst k)) k ≡ delivery l b u k
+unfolding turnDelivery delivery deliveryConditions unless firstOf
+unsent-unread l b u k h = go (ltb k places) refl
   where
     x : U.Unit
     x = unitAt b u
@@ -102,53 +102,53 @@ delivered-sent l b u k h = go (ltb k places) refl
         rw (le-leb (b .kept) k past) (unsent (isUp (x .power)) _ _)
 
 -- of event e on the bench b
-abbrev pub turnOn : Limits → Bench → ScriptEvent → Answer
+abbrev turnOn : Limits → Bench → ScriptEvent → Answer
 turnOn l b e = turn l (unitAt b (eventUnit e)) (b .kept) (messageAt b (eventPlace e)) e
 
 pub turn-answers : (l : Limits) (b : Bench) (e : ScriptEvent) → b .kept ≤ places
-    → storedAnswer b (eventUnit e) (turnOn l b e) (outcomeOf (b .kept) (turnOn l b e)) ≡ answer l b e
+    → lineAnswer b (eventUnit e) (turnOn l b e) (outcomeOf (b .kept) (turnOn l b e)) ≡ answer l b e
 unfolding answer unitAnswer turn outcomeOf
 turn-answers l b ScriptEvent.Malformed h = sym (answer-line l b)
 turn-answers l b (ScriptEvent.Propose u v) h = settles b u _
-turn-answers l b (ScriptEvent.Deliver u k) h = rw (← (delivered-sent l b u k h)) (settles b u _)
-turn-answers l b (ScriptEvent.Cut u k) h = rw (← (delivered-sent l b u k h)) (settles b u _)
+turn-answers l b (ScriptEvent.Deliver u k) h = rw (← (unsent-unread l b u k h)) (settles b u _)
+turn-answers l b (ScriptEvent.Cut u k) h = rw (← (unsent-unread l b u k h)) (settles b u _)
 turn-answers l b (ScriptEvent.KeyOff u) h = settles b u _
 turn-answers l b (ScriptEvent.KeyOn u) h = settles b u _
 
 -- event e on the bench b: a is its unit u's answer, and o what came of it
-pub record Turned (l : Limits) (b : Bench) (e : ScriptEvent) (u : ℕ) (a : Answer) (o : Outcome) : Type 0 where
-  pub same : storedAnswer b u a o ≡ answer l b e
+pub record Turned (l : Limits) (b : Bench) (e : ScriptEvent) (u : ℕ) (a : Answer) (o : LineOutcome) : Type 0 where
+  pub same : lineAnswer b u a o ≡ answer l b e
 
 -- as the code has it, of unit u and message k of the bench
-pub turned : (l : Limits) (b : Bench) (e : ScriptEvent) (u k : ℕ) (a : Answer) (o : Outcome) → b .kept ≤ places → u ≡ eventUnit e → k ≡ eventPlace e
+pub turned : (l : Limits) (b : Bench) (e : ScriptEvent) (u k : ℕ) (a : Answer) (o : LineOutcome) → b .kept ≤ places → u ≡ eventUnit e → k ≡ eventPlace e
     → a ≡ turn l (getD (b .units) u noUnit) (b .kept) (getD (b .messages) k emptyMessage) e → o ≡ outcomeOf (b .kept) a → Turned l b e u a o
 unfolding unitAt messageAt
 turned l b e u k a o h at place took came = record { same = rw (came, took, at, place) (turn-answers l b e h) }
 
 -- ---- the bench as the stores leave it
 
-module _ {l : Limits} {b : Bench} {e : ScriptEvent} {u : ℕ} {a : Answer} {o : Outcome} (t : Turned l b e u a o) where
+module _ {l : Limits} {b : Bench} {e : ScriptEvent} {u : ℕ} {a : Answer} {o : LineOutcome} (t : Turned l b e u a o) where
   -- what is sent has a place
-  pub sent-room : sends (o .sent) ≡ true → b .kept < places
-  sent-room s = room (ap (λ (r : LineAnswer). sends (r .sent)) (sym (t .same)) ∙ s)
+  pub sent-room : isSent (o .sent) ≡ true → b .kept < places
+  sent-room s = room (ap (λ (r : LineAnswer). isSent (r .sent)) (sym (t .same)) ∙ s)
     where
-      room : sends (answer l b e .sent) ≡ true → b .kept < places
+      room : isSent (answer l b e .sent) ≡ true → b .kept < places
       room =
-          by-answer (λ r. sends (r .sent) ≡ true → b .kept < places) l b e
+          by-answer (λ r. isSent (r .sent) ≡ true → b .kept < places) l b e
           (record { refuses = λ some h. never h; quiet = λ ok empty h. never h; full = λ ok some no h. never h; sends = λ ok some room h. room })
 
-  same-bench : stored b u a o ≡ answer l b e .bench
+  same-bench : afterTurn b u a o ≡ answer l b e .bench
   same-bench = ap (λ (r : LineAnswer). r .bench) (t .same)
 
-  pub stored-sent : numberOf (o .refusal) ≡ 0 → sends (o .sent) ≡ true
+  pub after-sent : numberOf (o .refusal) ≡ 0 → isSent (o .sent) ≡ true
       → record { units = set (b .units) u (a .unit); messages = set (b .messages) (b .kept) (a .message); kept = b .kept + 1 } ≡ answer l b e .bench
   unfolding withUnit withMessage
-  stored-sent zero s = rw (eq-eqb _ _ zero, s) at same-bench
+  after-sent zero s = rw (eq-eqb _ _ zero, s) at same-bench
 
-  pub stored-quiet : numberOf (o .refusal) ≡ 0 → sends (o .sent) ≡ false
+  pub after-quiet : numberOf (o .refusal) ≡ 0 → isSent (o .sent) ≡ false
       → record { units = set (b .units) u (a .unit); messages = b .messages; kept = b .kept } ≡ answer l b e .bench
   unfolding withUnit
-  stored-quiet zero s = rw (eq-eqb _ _ zero, s) at same-bench
+  after-quiet zero s = rw (eq-eqb _ _ zero, s) at same-bench
 
-  pub stored-not : (numberOf (o .refusal) ≡ 0 → ⊥) → b ≡ answer l b e .bench
-  stored-not some = rw (ne-eqb _ _ some) at same-bench
+  pub after-refused : (numberOf (o .refusal) ≡ 0 → ⊥) → b ≡ answer l b e .bench
+  after-refused some = rw (ne-eqb _ _ some) at same-bench

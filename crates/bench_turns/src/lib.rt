@@ -19,7 +19,7 @@ ghost use Rattle.script.specs.Script.{eventUnit};
 ghost use Rattle.consensus.specs.Step.{fresh};
 ghost use Rattle.bench_play.specs.Bench.{headerSettings, freshUnits, start, noPlaceLeft};
 ghost use Rattle.bench_play.specs.Play.{cutShort};
-ghost use Rattle.bench_turns.specs.InnerTurns.{placeOr, eventPlace, delivered, turn, turnedDown, taken, outcomeOf, sends};
+ghost use Rattle.bench_turns.specs.InnerTurns.{placeOrFirst, eventPlace, turnDelivery, turn, refusedOutcome, acceptedOutcome, outcomeOf, isSent};
 
 // ---- at the start
 
@@ -74,8 +74,8 @@ pub fn event_unit(e: ScriptEvent) -> u32
     }
 }
 
-fn place_or(k: u32) -> u32
-    ensures { λ r. ⌜ r ≡ placeOr k ⌝ }
+fn place_or_first(k: u32) -> u32
+    ensures { λ r. ⌜ r ≡ placeOrFirst k ⌝ }
 {
     if k < limits::PLACES as u32 { k } else { 0 }
 }
@@ -87,8 +87,8 @@ pub fn event_place(e: ScriptEvent) -> u32
     match e {
         ScriptEvent::Malformed => 0,
         ScriptEvent::Propose(_, _) => 0,
-        ScriptEvent::Deliver(_, k) => place_or(k),
-        ScriptEvent::Cut(_, k) => place_or(k),
+        ScriptEvent::Deliver(_, k) => place_or_first(k),
+        ScriptEvent::Cut(_, k) => place_or_first(k),
         ScriptEvent::KeyOff(_) => 0,
         ScriptEvent::KeyOn(_) => 0,
     }
@@ -96,9 +96,9 @@ pub fn event_place(e: ScriptEvent) -> u32
 
 // ---- what its unit answers
 
-// A delivery of m, which has number k: 9 and 10 come before the unit's own numbers.
-fn delivered(unit: Unit, kept: u32, m: Message, k: u32) -> Answer
-    ensures { λ r. ⌜ r ≡ delivered today unit kept m k ⌝ }
+// A delivery of message number k, which is m if it was sent: 9 and 10 come before the unit's own numbers.
+fn turn_delivery(unit: Unit, kept: u32, m: Message, k: u32) -> Answer
+    ensures { λ r. ⌜ r ≡ turnDelivery today unit kept m k ⌝ }
 {
     let power = unit.power;
     if !methods::is_up(power) {
@@ -130,8 +130,8 @@ pub fn turn(unit: Unit, kept: u32, m: Message, e: ScriptEvent) -> Answer
     match e {
         ScriptEvent::Malformed => unit.refused(Refusal::Line),
         ScriptEvent::Propose(_, v) => unit.propose(v),
-        ScriptEvent::Deliver(_, k) => delivered(unit, kept, m, k),
-        ScriptEvent::Cut(_, k) => cut_short(delivered(unit, kept, m, k)),
+        ScriptEvent::Deliver(_, k) => turn_delivery(unit, kept, m, k),
+        ScriptEvent::Cut(_, k) => cut_short(turn_delivery(unit, kept, m, k)),
         ScriptEvent::KeyOff(_) => unit.key_off(),
         ScriptEvent::KeyOn(_) => unit.key_on(),
     }
@@ -140,26 +140,26 @@ pub fn turn(unit: Unit, kept: u32, m: Message, e: ScriptEvent) -> Answer
 // ---- what comes of it
 
 // What a line shows beside its event: a refusal or None, the message sent, and a mileage decided or blank.
-pub struct Outcome {
+pub struct LineOutcome {
     pub refusal: Refusal,
     pub sent: Sent,
     pub decision: Estimate,
 }
 
-fn turned_down(refusal: Refusal) -> Outcome
-    ensures { λ r. ⌜ r ≡ turnedDown refusal ⌝ }
+fn refused_outcome(refusal: Refusal) -> LineOutcome
+    ensures { λ r. ⌜ r ≡ refusedOutcome refusal ⌝ }
 {
-    Outcome {
+    LineOutcome {
         refusal,
         sent: Sent::Nothing,
         decision: Estimate::Blank,
     }
 }
 
-fn taken(sent: Sent, decision: Estimate) -> Outcome
-    ensures { λ r. ⌜ r ≡ taken sent decision ⌝ }
+fn accepted_outcome(sent: Sent, decision: Estimate) -> LineOutcome
+    ensures { λ r. ⌜ r ≡ acceptedOutcome sent decision ⌝ }
 {
-    Outcome {
+    LineOutcome {
         refusal: Refusal::None,
         sent,
         decision,
@@ -173,7 +173,7 @@ fn no_place_left(kept: u32) -> bool
 }
 
 // What comes of a unit's answer, with that many messages kept: 11 is last, and refuses the whole event.
-pub fn outcome_of(kept: u32, a: Answer) -> Outcome
+pub fn outcome_of(kept: u32, a: Answer) -> LineOutcome
     ensures { λ r. ⌜ r ≡ outcomeOf kept a ⌝ }
 {
     let refusal = a.refusal;
@@ -182,19 +182,19 @@ pub fn outcome_of(kept: u32, a: Answer) -> Outcome
     let decision = a.decision;
     if tally::number(refusal) == 0 {
         if messages::is_empty(kind) {
-            return taken(Sent::Nothing, decision);
+            return accepted_outcome(Sent::Nothing, decision);
         }
         if no_place_left(kept) {
-            return turned_down(Refusal::Full);
+            return refused_outcome(Refusal::Full);
         }
-        taken(Sent::At(kept), decision)
+        accepted_outcome(Sent::At(kept), decision)
     } else {
-        turned_down(refusal)
+        refused_outcome(refusal)
     }
 }
 
-pub fn sends(s: Sent) -> bool
-    ensures { λ r. ⌜ r ≡ sends s ⌝ }
+pub fn is_sent(s: Sent) -> bool
+    ensures { λ r. ⌜ r ≡ isSent s ⌝ }
 {
     match s {
         Sent::Nothing => false,

@@ -1,4 +1,4 @@
-//! The C header's constants, under its names without `MILEAGE_`; and where each field of a log, an image or a message stands.
+//! The C header's constants but the version, under its names without `MILEAGE_`; and where each field of a log, an image or a message stands.
 
 macro_rules! constants {
     ($($name:ident: $type:ty = $value:expr;)*) => {
@@ -9,7 +9,6 @@ macro_rules! constants {
 }
 
 constants! {
-    VERSION: u32 = 1;
     LOG_LENGTH: usize = 20;
     LOG_FIELDS: usize = 8;
     IMAGE_LENGTH: usize = 152;

@@ -2,7 +2,7 @@
 
 use crate::call::{IMAGE, LOG};
 use crate::demand3::Demand3;
-use crate::format::ACCEPTED;
+use crate::format::{ACCEPTED, MAX_UNITS, MIN_UNITS};
 use crate::side::Pair;
 use crate::trouble::{agreed, Trouble};
 use crate::world::{first_calls, Done, Event, Setting, What, World};
@@ -44,7 +44,7 @@ impl Tally {
             .filter(|(_, count)| *count == 0)
             .map(|(what, _)| what.to_string())
             .collect();
-        for n in 3..=16 {
+        for n in MIN_UNITS as usize..=MAX_UNITS as usize {
             for (engine, counts) in ["B", "R"].iter().zip(&self.decided) {
                 if counts[n] == 0 {
                     missing.push(format!("a decision in {engine} with n = {n}"));

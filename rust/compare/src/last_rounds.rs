@@ -3,7 +3,8 @@
 use crate::call::{Call, Entry, IMAGE, LOG, MESSAGE};
 use crate::format::{image_of, log_of, message_of, put_mark, quorum};
 use crate::format::{
-    ACCEPTED, BLANK, CHECK_MARKS, EVERYONE, LAST_ROUND, MAX_ROUND, SECOND_MARKS, SPLIT,
+    ACCEPTED, BLANK, CHECK_MARKS, EVERYONE, LAST_ROUND, MAX_ROUND, MAX_UNITS, MIN_UNITS,
+    SECOND_MARKS, SPLIT,
 };
 use crate::histories;
 use crate::history::{Run, Tally};
@@ -134,7 +135,7 @@ fn neighbours(pair: &Pair) -> Result<u64, String> {
     let mut count = 0;
     for (engine, n) in [b'B', b'R']
         .into_iter()
-        .flat_map(|engine| (3..=16).map(move |n| (engine, n)))
+        .flat_map(|engine| (MIN_UNITS..=MAX_UNITS).map(move |n| (engine, n)))
     {
         for row in rows() {
             let Some(call) = row_call(&row, engine, n) else {

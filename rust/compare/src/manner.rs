@@ -1,6 +1,8 @@
 //! Events at random: messages lost, copied, delayed and out of order, cuts, key-offs, proposals, calls with arbitrary buffers.
 
-use crate::format::{get, BLANK, EVERYONE, MAX_MILEAGE, RECEIVER, SENDER, SPLIT};
+use crate::format::{
+    get, BLANK, EVERYONE, MAX_ENTRY, MAX_MILEAGE, MIN_ENTRY, MIN_UNITS, RECEIVER, SENDER, SPLIT,
+};
 use crate::history::{Run, Tally};
 use crate::random::Random;
 use crate::trouble::Trouble;
@@ -164,11 +166,11 @@ pub fn play(
 
 pub fn random_setting(random: &mut Random) -> Setting {
     let sizes = random.one_of(&[4, 14]);
-    let n = 3 + random.below(sizes);
+    let n = MIN_UNITS + random.below(sizes);
     Setting {
         engine: random.one_of(b"BR"),
         n,
-        entry: random.between(1, 9999),
+        entry: random.between(MIN_ENTRY, MAX_ENTRY),
         rounds: Vec::new(),
     }
 }

@@ -1,7 +1,7 @@
 //! Scripts that mean something, made by playing them along: which messages there are, who is down, who heard what.
 
 use crate::call::{IMAGE, LOG};
-use crate::format::{get, EVERYONE, MAX_MILEAGE, RECEIVER};
+use crate::format::{get, EVERYONE, MAX_ENTRY, MAX_MILEAGE, MIN_ENTRY, RECEIVER};
 use crate::listed::{one_of, BAD_LINES};
 use crate::random::Random;
 use crate::side::INDEPENDENT;
@@ -52,7 +52,7 @@ impl<'a> Play<'a> {
     /// A header, and one to three proposals. From calm and in order, which decides, to wild.
     pub fn begin(n: u32, random: &'a mut Random) -> Play<'a> {
         let header = random.one_of(&["B", "R", "R", ""]);
-        let any_entry = random.between(1, 9999);
+        let any_entry = random.between(MIN_ENTRY, MAX_ENTRY);
         let setting = Setting {
             engine: *header.as_bytes().first().unwrap_or(&b'B'),
             n,

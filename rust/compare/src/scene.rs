@@ -4,7 +4,8 @@ use crate::format::{
     self, image_of, is_marked, log_of, marks_of, message_of, put_mark, quorum, Field,
 };
 use crate::format::{
-    BLANK, CHECK_MARKS, EVERYONE, MAX_ENTRY, MAX_MILEAGE, MAX_ROUND, SECOND_MARKS, SPLIT,
+    BLANK, CHECK_MARKS, EVERYONE, MAX_ENTRY, MAX_MILEAGE, MAX_ROUND, MAX_UNITS, MIN_UNITS,
+    SECOND_MARKS, SPLIT,
 };
 use crate::random::Random;
 
@@ -48,7 +49,7 @@ pub struct Scene {
 
 impl Scene {
     pub fn new(random: &mut Random) -> Scene {
-        let (any, few) = (random.between(3, 16), 3 + random.below(3));
+        let (any, few) = (random.between(MIN_UNITS, MAX_UNITS), 3 + random.below(3));
         let n = random.either((1, 2), any, few);
         let mut mileages = [random.between(0, MAX_MILEAGE); 3];
         for mileage in &mut mileages[1..] {
@@ -184,7 +185,7 @@ impl Scene {
         let mut scene = self.clone();
         match random.below(20) {
             0 => scene.engine = random.one_of(b"BR"),
-            1 => scene.n = random.between(3, 16),
+            1 => scene.n = random.between(MIN_UNITS, MAX_UNITS),
             2 => scene.entry = random.one_of(&[self.entry % 9999 + 1, self.entry % 9744 + 256, 1]),
             3 => scene.unit = random.below(self.n),
             _ => {}

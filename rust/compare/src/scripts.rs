@@ -1,5 +1,6 @@
 //! The bench program and the independent listing on the same scripts, byte for byte; each script a process of its own.
 
+use crate::format::{MAX_UNITS, MIN_UNITS};
 use crate::made::{self, Make};
 use crate::places;
 use crate::play::PLACES;
@@ -82,7 +83,7 @@ impl Tally {
             .filter(|&&number| self.numbers[number] == 0)
             .map(|number| format!("number {number}"))
             .collect();
-        for n in 3..=16 {
+        for n in MIN_UNITS as usize..=MAX_UNITS as usize {
             if self.closed[0][n] == 0 || self.closed[1][n] == 0 {
                 missing.push(format!("a decision with n = {n} in each engine"));
             }

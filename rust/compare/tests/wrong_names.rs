@@ -1,7 +1,7 @@
 //! The comparison of header, `extern "C"` block and archive can fail.
 
 use compare::names::{check, differences};
-use compare::places;
+use compare::{core, places};
 
 const SOURCE: &str = include_str!("../src/core.rs");
 
@@ -77,7 +77,9 @@ fn another_prototype_is_found() {
 #[test]
 fn another_constant_is_found() {
     assert_found("MILEAGE_IMAGE_LENGTH 152", "MILEAGE_IMAGE_LENGTH 153");
-    assert_found("MILEAGE_VERSION UINT32_C(1)", "MILEAGE_VERSION UINT32_C(2)");
+    let version = |number: u32| format!("MILEAGE_VERSION UINT32_C({number})");
+    assert_found(&version(core::version()), &version(core::version() + 1));
+    assert_found(&format!("#define {}", version(core::version())), "");
     assert_found("#define MILEAGE_MAX_MILEAGE UINT32_C(9999999)", "");
     assert_found("UINT32_C(4294967294)", "UINT32_C(4294967293)");
     assert_found("#define MILEAGE_LAST_ROUND UINT32_C(7)", "");

@@ -5,7 +5,7 @@ use Rattle.script.proofs.HeaderLines.{ranges}
 use Rattle.bench_play.specs.Bench.{start}
 use Rattle.bench_text.proofs.Appending.{then, room-first, room-next}
 use Rattle.bench.specs.Listing.{headerLine}
-use Rattle.bench.specs.InnerTurns.{eventsFrom, restText}
+use Rattle.bench.specs.InnerLines.{eventsFrom, restText}
 use Rattle.bench.proofs.Lengths.{played-length}
 use Rattle.bench.proofs.put_played.Statement.{statement}
 use Rattle.bench.proofs.put_played.Tie as tie

@@ -18,7 +18,7 @@ outcome-of-spec =
       ← (c .before .before .is-empty .ensures),
       c .before .if2 .taken,
     )
-    (c .taken .ensures))
+    (c .accepted-outcome .ensures))
     (λ c κs. search needs)
     (λ c κs. search needs)
     (λ c. simp (
@@ -29,7 +29,7 @@ outcome-of-spec =
       ← (c .before .before .no-place-left .ensures),
       c .before .if3 .taken,
     )
-    (c .turned-down .ensures))
+    (c .refused-outcome .ensures))
     (λ c κs. search needs)
     (λ c κs. search needs)
     (λ c. simp (
@@ -40,5 +40,5 @@ outcome-of-spec =
       ← (c .before .before .no-place-left .ensures),
       c .before .if3 .left,
     )
-    (c .taken2 .ensures))
-    (λ c. simp (← (c .before .before .number .ensures), ne-eqb _ _ (c .before .if1 .left)) (c .turned-down2 .ensures)))
+    (c .accepted-outcome2 .ensures))
+    (λ c. simp (← (c .before .before .number .ensures), ne-eqb _ _ (c .before .if1 .left)) (c .refused-outcome2 .ensures)))

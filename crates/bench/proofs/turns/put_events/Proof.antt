@@ -10,7 +10,7 @@ use Rattle.bench_play.proofs.PlayedLines.{start-sized, sized-answer}
 use Rattle.bench_play.specs.Bench.{start}
 use Rattle.bench_play.specs.Claims.{Sized}
 use Rattle.bench_play.specs.Play.{answer}
-use Rattle.bench_turns.proofs.Turns.{place-below, turned, sent-room, stored-sent, stored-quiet, stored-not}
+use Rattle.bench_turns.proofs.Turns.{Turned, place-below, turned, sent-room, after-sent, after-quiet, after-refused}
 use Rattle.bench.proofs.Rest.{Left, line-turned, turn-room, left-start, left-room, left-step, left-end, end-room}
 use Rattle.bench.proofs.turns.put_events.Statement.{statement}
 use Rattle.bench.proofs.turns.put_events.Tie as tie
@@ -49,18 +49,25 @@ add-listing-line c =
     let test = c .before .before .before .before .before .before .before .before in
     omega (arith, test .before .loop .inv .1, test .loop-test .taken, test .before .before .before .before .before .pre .1 .0)
 
+-- what the line's calls before the first store came to
+line-taken : (t : tie.After-outcome-of Inv-loop μ-loop)
+    → let at = t .before .before .before .before .before .before .before .before .loop in
+    let line = t .before .before .before .before .before .before .line-at in
+    Turned today (at .b) (line .result .event) (t .before .before .before .before .before .event-unit .result) (t .before .turn .result) (t .outcome-of .result)
+line-taken t =
+    let place = t .before .before .before .before in
+    let at = place .before .before .before .before .loop in
+    turned today _ _ _ _ _ _ (at .inv .2 .kept) (place .before .event-unit .ensures) (place .event-place .ensures) (t .before .turn .ensures)
+    (t .outcome-of .ensures)
+
 put-line-requires : tie.Need-put-line-requires Inv-loop μ-loop
 put-line-requires c κs =
     let t = c .before .before in
-    let place = t .before .before .before .before in
-    let line = place .before .before .line-at in
-    let at = place .before .before .before .before .loop in
-    let done =
-    turned today (at .b) (line .result .event) _ _ _ _ (at .inv .2 .kept) (place .before .event-unit .ensures) (place .event-place .ensures)
-    (t .before .turn .ensures) (t .outcome-of .ensures) in
-    let s = place .before .before .before .before .before .before .before .before in
+    let line = t .before .before .before .before .before .before .line-at in
+    let at = t .before .before .before .before .before .before .before .before .loop in
+    let s = t .before .before .before .before .before .before .before .before .before .before .before .before in
     let room = left-room today (s .args .h .n) (s .args .script .now) (at .inv .4) (s .args .out .now) (at .inv .3) (s .pre .1 .1 .1 .1) in
-    rw (c .listing-line .ensures, line-turned _ done)
+    rw (c .listing-line .ensures, line-turned _ (line-taken t))
     (turn-room today _ _ (at .b) _ _ _ (line .result .event) (at .out) _ (line .ensures .events) room)
 
 element-set-from-next : tie.Need-element-set-from-next Inv-loop μ-loop
@@ -70,13 +77,7 @@ element-set-from-next c = element-copy-out-unit (c .before .before .before .befo
 element-set-from-message : tie.Need-element-set-from-message Inv-loop μ-loop
 element-set-from-message c =
     let t = c .before .before .before .before .before .before .before .before .before .before .before in
-    let place = t .before .before .before .before in
-    let line = place .before .before .line-at in
-    let at = place .before .before .before .before .loop in
-    let done =
-    turned today (at .b) (line .result .event) _ _ _ _ (at .inv .2 .kept) (place .before .event-unit .ensures) (place .event-place .ensures)
-    (t .before .turn .ensures) (t .outcome-of .ensures) in
-    sent-room done (sym (c .before .before .sends .ensures) ∙ c .before .if2 .taken)
+    sent-room (line-taken t) (sym (c .before .before .is-sent .ensures) ∙ c .before .if2 .taken)
 
 loop-less : tie.Need-loop-less Inv-loop μ-loop
 loop-less c =
@@ -86,27 +87,23 @@ loop-less c =
 loop-again : tie.Need-loop-again Inv-loop μ-loop
 loop-again c =
     let t = c .before .before .before .before .before .before .before in
-    let place = t .before .before .before .before in
-    let line = place .before .before .line-at in
-    let at = place .before .before .before .before .loop in
-    let done =
-    turned today (at .b) (line .result .event) _ _ _ _ (at .inv .2 .kept) (place .before .event-unit .ensures) (place .event-place .ensures)
-    (t .before .turn .ensures) (t .outcome-of .ensures) in
+    let line = t .before .before .before .before .before .before .line-at in
+    let at = t .before .before .before .before .before .before .before .before .loop in
     let put = c .before .before .before .before in
     let number = c .before .number .ensures in
     let next : c .if1 .b ≡ answer today (at .b) (line .result .event) .bench =
     ⊎-elim
-    (λ w. w .5 ∙ stored-sent done (sym number ∙ w .0 .taken) (sym (w .2 .ensures) ∙ w .3 .taken))
+    (λ w. w .5 ∙ after-sent (line-taken t) (sym number ∙ w .0 .taken) (sym (w .2 .ensures) ∙ w .3 .taken))
     (⊎-elim
-    (λ w. w .4 ∙ stored-quiet done (sym number ∙ w .0 .taken) (sym (w .2 .ensures) ∙ w .3 .left))
-    (λ w. w .1 ∙ stored-not done (λ zero. w .0 .left (number ∙ zero))))
+    (λ w. w .4 ∙ after-quiet (line-taken t) (sym number ∙ w .0 .taken) (sym (w .2 .ensures) ∙ w .3 .left))
+    (λ w. w .1 ∙ after-refused (line-taken t) (λ zero. w .0 .left (number ∙ zero))))
     (c .if1 .came) in (
       line .ensures .within,
       omega (arith, line .ensures .later),
       rw next (sized-answer today (at .b) (at .inv .2) (line .result .event)),
       put .put-line .kept .0 ∙ at .inv .3,
       left-step today _ _ (at .inv .4) (line .result) _ (line .ensures) next
-          (rw (put .before .listing-line .ensures, line-turned _ done) at (put .put-line .ensures)),
+          (rw (put .before .listing-line .ensures, line-turned _ (line-taken t)) at (put .put-line .ensures)),
     )
 
 put-end-requires : tie.Need-put-end-requires Inv-loop μ-loop

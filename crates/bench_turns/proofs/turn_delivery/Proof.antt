@@ -3,13 +3,13 @@ use borrow.Author.Needs.{needs}
 use Rattle.consensus.specs.Conditions.{firstOf}
 use Rattle.consensus.specs.Methods.{unless}
 use Rattle.bench_play.specs.Play.{deliveryConditions}
-use Rattle.bench_turns.specs.InnerTurns.{delivered}
-use Rattle.bench_turns.proofs.delivered.Statement.{statement}
-use Rattle.bench_turns.proofs.delivered.Tie as tie
+use Rattle.bench_turns.specs.InnerTurns.{turnDelivery}
+use Rattle.bench_turns.proofs.turn_delivery.Statement.{statement}
+use Rattle.bench_turns.proofs.turn_delivery.Tie as tie
 
-pub delivered-spec : {M : Type 1} → statement M
-unfolding delivered deliveryConditions unless firstOf
-delivered-spec =
+pub turn-delivery-spec : {M : Type 1} → statement M
+unfolding turnDelivery deliveryConditions unless firstOf
+turn-delivery-spec =
     tie.close
     (tie.spec
     (λ c κs. search needs)
