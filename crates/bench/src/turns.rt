@@ -37,7 +37,7 @@ fn line_at(n: u8, script: &[u8], p: usize) -> LineRead
 }
 
 // The listing of all lines from byte `from` on, and the final line. The bench stays where it is: of it a line reads one unit and one message, and
-// stores one unit and one message.
+// stores at most one of each.
 pub(crate) fn put_events(
     script: &[u8],
     from: usize,
