@@ -59,19 +59,17 @@ pub(crate) fn put_events(
     while p < script.len() {
         let line = line_at(h.n, script, p);
         let event = line.event;
-        let u = bench_turns::event_unit(event) as usize;
-        let k = bench_turns::event_place(event) as usize;
+        let u = bench_turns::event_unit(event);
+        let k = bench_turns::event_place(event);
         let unit = b.units[u];
         let m = b.messages[k];
         let answer = bench_turns::turn(unit, b.kept, m, event);
         let outcome = bench_turns::outcome_of(b.kept, answer);
         at = bench_text::put_line(out, at, lines::listing_line(i + 1, event, outcome));
-        let refusal = outcome.refusal;
-        if tally::number(refusal) == 0 {
+        if bench_turns::is_accepted(outcome) {
             let next = answer.unit;
             b.units[u] = next;
-            let sent = outcome.sent;
-            if bench_turns::is_sent(sent) {
+            if bench_turns::is_sent(outcome) {
                 let message = answer.message;
                 let place = b.kept as usize;
                 b.messages[place] = message;

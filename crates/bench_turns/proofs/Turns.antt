@@ -4,12 +4,11 @@ use mathlib.Core.Path.{_≡_, refl, sym, ap, _∙_}
 use mathlib.Core.Bool.{Bool, true, false, not, cond}
 use mathlib.Core.List.{[], _∷_}
 use native.Mathlib.Omega.{arith}
-use lib.Dec.{eqb, ltb}
+use lib.Dec.{ltb}
 use lib.ListN.{getD, set}
 use borrow.Author.Tests.{eq-eqb, ne-eqb, ltb-true, ltb-false, le-leb, lt-leb}
 use Rattle.tally.proofs.Never.{never}
 use Rattle.tally.specs.Limits.{Limits, places}
-use Rattle.tally.specs.Refusal.{numberOf}
 use Rattle.tally.specs.declared.Refusal.{Refusal}
 use Rattle.contents.specs.Messages.{isEmpty, emptyMessage}
 use Rattle.contents.specs.declared.Kind.{Kind}
@@ -24,7 +23,7 @@ use Rattle.bench_play.specs.Bench.{LineAnswer, noUnit, unitAt, messageAt, noPla
 use Rattle.bench_play.specs.Play.{deliveryConditions, delivery, unitAnswer, answer}
 use Rattle.bench_play.specs.declared.Bench.{Bench}
 use Rattle.bench_play.proofs.Settled.{by-settle, by-answer, answer-line}
-use Rattle.bench_turns.specs.InnerTurns.{placeOrFirst, eventPlace, turnDelivery, turn, outcomeOf, isSent}
+use Rattle.bench_turns.specs.InnerTurns.{placeOrFirst, eventPlace, turnDelivery, turn, outcomeOf, isAccepted, isSent}
 use Rattle.bench_turns.specs.declared.LineOutcome.{LineOutcome}
 
 -- ---- the place of the message that an event takes
@@ -49,7 +48,7 @@ place-below (ScriptEvent.KeyOn u) = omega arith
 -- the bench after unit u's answer a, of which o came: as it was where that is a refusal
 abbrev afterTurn : Bench → ℕ → Answer → LineOutcome → Bench
 afterTurn b u a o =
-    cond (eqb (numberOf (o .refusal)) 0)
+    cond (isAccepted o)
     (cond (isSent (o .sent)) (withMessage (withUnit b u (a .unit)) (a .message)) (withUnit b u (a .unit)))
     b
 
@@ -140,15 +139,15 @@ module _ {l : Limits} {b : Bench} {e : ScriptEvent} {u : ℕ} {a : Answer} {o : 
   same-bench : afterTurn b u a o ≡ answer l b e .bench
   same-bench = ap (λ (r : LineAnswer). r .bench) (t .same)
 
-  pub after-sent : numberOf (o .refusal) ≡ 0 → isSent (o .sent) ≡ true
+  pub after-sent : isAccepted o ≡ true → isSent (o .sent) ≡ true
       → record { units = set (b .units) u (a .unit); messages = set (b .messages) (b .kept) (a .message); kept = b .kept + 1 } ≡ answer l b e .bench
   unfolding withUnit withMessage
-  after-sent zero s = rw (eq-eqb _ _ zero, s) at same-bench
+  after-sent ok s = rw (ok, s) at same-bench
 
-  pub after-quiet : numberOf (o .refusal) ≡ 0 → isSent (o .sent) ≡ false
+  pub after-quiet : isAccepted o ≡ true → isSent (o .sent) ≡ false
       → record { units = set (b .units) u (a .unit); messages = b .messages; kept = b .kept } ≡ answer l b e .bench
   unfolding withUnit
-  after-quiet zero s = rw (eq-eqb _ _ zero, s) at same-bench
+  after-quiet ok s = rw (ok, s) at same-bench
 
-  pub after-refused : (numberOf (o .refusal) ≡ 0 → ⊥) → b ≡ answer l b e .bench
-  after-refused some = rw (ne-eqb _ _ some) at same-bench
+  pub after-refused : isAccepted o ≡ false → b ≡ answer l b e .bench
+  after-refused refused = rw refused at same-bench

@@ -61,6 +61,9 @@ outcomeOf kept a =
     (cond (noPlaceLeft kept) (refusedOutcome Refusal.Full) (acceptedOutcome (Sent.At kept) (a .decision))))
     (refusedOutcome (a .refusal))
 
+abbrev pub isAccepted : LineOutcome → Bool
+isAccepted o = eqb (numberOf (o .refusal)) 0
+
 abbrev pub isSent : Sent → Bool
 isSent Sent.Nothing = false
 isSent (Sent.At k) = true

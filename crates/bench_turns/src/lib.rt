@@ -19,7 +19,7 @@ ghost use Rattle.script.specs.Script.{eventUnit};
 ghost use Rattle.consensus.specs.Step.{fresh};
 ghost use Rattle.bench_play.specs.Bench.{headerSettings, freshUnits, start, noPlaceLeft};
 ghost use Rattle.bench_play.specs.Play.{cutShort};
-ghost use Rattle.bench_turns.specs.InnerTurns.{placeOrFirst, eventPlace, turnDelivery, turn, refusedOutcome, acceptedOutcome, outcomeOf, isSent};
+ghost use Rattle.bench_turns.specs.InnerTurns.{placeOrFirst, eventPlace, turnDelivery, turn, refusedOutcome, acceptedOutcome, outcomeOf, isAccepted, isSent};
 
 // ---- at the start
 
@@ -61,27 +61,28 @@ pub fn start(h: Header) -> Bench
 
 // ---- what an event takes of the bench
 
-pub fn event_unit(e: ScriptEvent) -> u32
+pub fn event_unit(e: ScriptEvent) -> usize
     ensures { λ r. ⌜ r ≡ eventUnit e ⌝ }
 {
     match e {
         ScriptEvent::Malformed => 0,
-        ScriptEvent::Propose(u, _) => u,
-        ScriptEvent::Deliver(u, _) => u,
-        ScriptEvent::Cut(u, _) => u,
-        ScriptEvent::KeyOff(u) => u,
-        ScriptEvent::KeyOn(u) => u,
+        ScriptEvent::Propose(u, _) => u as usize,
+        ScriptEvent::Deliver(u, _) => u as usize,
+        ScriptEvent::Cut(u, _) => u as usize,
+        ScriptEvent::KeyOff(u) => u as usize,
+        ScriptEvent::KeyOn(u) => u as usize,
     }
 }
 
-fn place_or_first(k: u32) -> u32
+fn place_or_first(k: u32) -> usize
     ensures { λ r. ⌜ r ≡ placeOrFirst k ⌝ }
 {
-    if k < limits::PLACES as u32 { k } else { 0 }
+    let k = k as usize;
+    if k < limits::PLACES { k } else { 0 }
 }
 
 // The place of the message that an event takes; the first where it takes none, or one that no place has.
-pub fn event_place(e: ScriptEvent) -> u32
+pub fn event_place(e: ScriptEvent) -> usize
     ensures { λ r. ⌜ r ≡ eventPlace e ⌝ }
 {
     match e {
@@ -193,10 +194,19 @@ pub fn outcome_of(kept: u32, a: Answer) -> LineOutcome
     }
 }
 
-pub fn is_sent(s: Sent) -> bool
-    ensures { λ r. ⌜ r ≡ isSent s ⌝ }
+pub fn is_accepted(o: LineOutcome) -> bool
+    ensures { λ r. ⌜ r ≡ isAccepted o ⌝ }
 {
-    match s {
+    let refusal = o.refusal;
+    let number = tally::number(refusal);
+    number == 0
+}
+
+pub fn is_sent(o: LineOutcome) -> bool
+    ensures { λ r. ⌜ r ≡ isSent (o .sent) ⌝ }
+{
+    let sent = o.sent;
+    match sent {
         Sent::Nothing => false,
         Sent::At(_) => true,
     }

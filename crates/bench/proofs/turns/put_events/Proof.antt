@@ -90,13 +90,13 @@ loop-again c =
     let line = t .before .before .before .before .before .before .line-at in
     let at = t .before .before .before .before .before .before .before .before .loop in
     let put = c .before .before .before .before in
-    let number = c .before .number .ensures in
+    let accepted = c .before .is-accepted .ensures in
     let next : c .if1 .b ≡ answer today (at .b) (line .result .event) .bench =
     ⊎-elim
-    (λ w. w .5 ∙ after-sent (line-taken t) (sym number ∙ w .0 .taken) (sym (w .2 .ensures) ∙ w .3 .taken))
+    (λ w. w .5 ∙ after-sent (line-taken t) (sym accepted ∙ w .0 .taken) (sym (w .2 .ensures) ∙ w .3 .taken))
     (⊎-elim
-    (λ w. w .4 ∙ after-quiet (line-taken t) (sym number ∙ w .0 .taken) (sym (w .2 .ensures) ∙ w .3 .left))
-    (λ w. w .1 ∙ after-refused (line-taken t) (λ zero. w .0 .left (number ∙ zero))))
+    (λ w. w .4 ∙ after-quiet (line-taken t) (sym accepted ∙ w .0 .taken) (sym (w .2 .ensures) ∙ w .3 .left))
+    (λ w. w .1 ∙ after-refused (line-taken t) (sym accepted ∙ w .0 .left)))
     (c .if1 .came) in (
       line .ensures .within,
       omega (arith, line .ensures .later),
@@ -131,9 +131,7 @@ put-events-spec =
     loop-holds
     (λ c κs. search needs)
     (λ c κs. search needs)
-    (λ c. search needs)
     (λ c κs. search needs)
-    (λ c. search needs)
     (λ c. omega (arith, element-copy-out-unit c))
     element-copy-out-unit
     (λ c. omega (arith, element-copy-out-m c))
