@@ -183,7 +183,7 @@ ln -s "$tree/play" "$work/link"
 listed "through a link" scripts/clean_close_b
 rm "$tree/target/bin/mileage_bench"
 mkdir "$work/bare"
-for tool in bash cat dirname find grep head mktemp readlink rm tail tee touch tr wc; do ln -s "$(command -v "$tool")" "$work/bare/$tool"; done
+for tool in bash cat dirname find grep head mktemp readlink rm tail tee touch wc; do ln -s "$(command -v "$tool")" "$work/bare/$tool"; done
 status=0
 PATH=$work/bare "$tree/play" scripts/clean_close_b >"$work/out" 2>"$work/err" || status=$?
 [ "$status" -eq 1 ] || wrong "without rt: status $status"

@@ -53,12 +53,14 @@ refusedOutcome k = record { refusal = k; sent = Sent.Nothing; decision = Blank }
 abbrev pub acceptedOutcome : Sent → Estimate → LineOutcome
 acceptedOutcome s d = record { refusal = Refusal.None; sent = s; decision = d }
 
--- what comes of an answer, with that many messages kept: as `settle` says, without the bench
+-- what comes of an answer, with that many messages kept: as `send` and `settle` say, without the bench
+abbrev pub sendOutcome : ℕ → Estimate → LineOutcome
+sendOutcome kept d = cond (noPlaceLeft kept) (refusedOutcome Refusal.Full) (acceptedOutcome (Sent.At kept) d)
+
 unfoldable pub outcomeOf : ℕ → Answer → LineOutcome
 outcomeOf kept a =
     cond (eqb (numberOf (a .refusal)) 0)
-    (cond (isEmpty (a .message .kind)) (acceptedOutcome Sent.Nothing (a .decision))
-    (cond (noPlaceLeft kept) (refusedOutcome Refusal.Full) (acceptedOutcome (Sent.At kept) (a .decision))))
+    (cond (isEmpty (a .message .kind)) (acceptedOutcome Sent.Nothing (a .decision)) (sendOutcome kept (a .decision)))
     (refusedOutcome (a .refusal))
 
 abbrev pub isAccepted : LineOutcome → Bool

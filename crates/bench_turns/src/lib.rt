@@ -19,7 +19,8 @@ ghost use Rattle.script.specs.Script.{eventUnit};
 ghost use Rattle.consensus.specs.Step.{fresh};
 ghost use Rattle.bench_play.specs.Bench.{headerSettings, freshUnits, start, noPlaceLeft};
 ghost use Rattle.bench_play.specs.Play.{cutShort};
-ghost use Rattle.bench_turns.specs.InnerTurns.{placeOrFirst, eventPlace, turnDelivery, turn, refusedOutcome, acceptedOutcome, outcomeOf, isAccepted, isSent};
+ghost use Rattle.bench_turns.specs.InnerTurns.{placeOrFirst, eventPlace, turnDelivery, turn};
+ghost use Rattle.bench_turns.specs.InnerTurns.{refusedOutcome, acceptedOutcome, sendOutcome, outcomeOf, isAccepted, isSent};
 
 // ---- at the start
 
@@ -173,7 +174,18 @@ fn no_place_left(kept: u32) -> bool
     limits::PLACES as u32 <= kept
 }
 
-// What comes of a unit's answer, with that many messages kept: 11 is last, and refuses the whole event.
+// Of an answer that sends, with that many messages kept: 11 is last, and refuses the whole event.
+fn send_outcome(kept: u32, decision: Estimate) -> LineOutcome
+    ensures { λ r. ⌜ r ≡ sendOutcome kept decision ⌝ }
+{
+    if no_place_left(kept) {
+        refused_outcome(Refusal::Full)
+    } else {
+        accepted_outcome(Sent::At(kept), decision)
+    }
+}
+
+// What comes of a unit's answer, with that many messages kept.
 pub fn outcome_of(kept: u32, a: Answer) -> LineOutcome
     ensures { λ r. ⌜ r ≡ outcomeOf kept a ⌝ }
 {
@@ -183,12 +195,10 @@ pub fn outcome_of(kept: u32, a: Answer) -> LineOutcome
     let decision = a.decision;
     if tally::number(refusal) == 0 {
         if messages::is_empty(kind) {
-            return accepted_outcome(Sent::Nothing, decision);
+            accepted_outcome(Sent::Nothing, decision)
+        } else {
+            send_outcome(kept, decision)
         }
-        if no_place_left(kept) {
-            return refused_outcome(Refusal::Full);
-        }
-        accepted_outcome(Sent::At(kept), decision)
     } else {
         refused_outcome(refusal)
     }

@@ -12,6 +12,8 @@ outcome-of-spec =
     (λ c κs. search needs)
     (λ c κs. search needs)
     (λ c κs. search needs)
+    (λ c κs. search needs)
+    (λ c κs. search needs)
     (λ c. simp (
       ← (c .before .before .before .before .number .ensures),
       eq-eqb _ _ (c .before .before .before .if1 .taken),
@@ -19,26 +21,11 @@ outcome-of-spec =
       c .before .if2 .taken,
     )
     (c .accepted-outcome .ensures))
-    (λ c κs. search needs)
-    (λ c κs. search needs)
     (λ c. simp (
-      ← (c .before .before .before .before .before .before .number .ensures),
-      eq-eqb _ _ (c .before .before .before .before .before .if1 .taken),
-      ← (c .before .before .before .before .is-empty .ensures),
-      c .before .before .before .if2 .left,
-      ← (c .before .before .no-place-left .ensures),
-      c .before .if3 .taken,
+      ← (c .before .before .before .before .number .ensures),
+      eq-eqb _ _ (c .before .before .before .if1 .taken),
+      ← (c .before .before .is-empty .ensures),
+      c .before .if2 .left,
     )
-    (c .refused-outcome .ensures))
-    (λ c κs. search needs)
-    (λ c κs. search needs)
-    (λ c. simp (
-      ← (c .before .before .before .before .before .before .number .ensures),
-      eq-eqb _ _ (c .before .before .before .before .before .if1 .taken),
-      ← (c .before .before .before .before .is-empty .ensures),
-      c .before .before .before .if2 .left,
-      ← (c .before .before .no-place-left .ensures),
-      c .before .if3 .left,
-    )
-    (c .accepted-outcome2 .ensures))
-    (λ c. simp (← (c .before .before .number .ensures), ne-eqb _ _ (c .before .if1 .left)) (c .refused-outcome2 .ensures)))
+    (c .send-outcome .ensures))
+    (λ c. simp (← (c .before .before .number .ensures), ne-eqb _ _ (c .before .if1 .left)) (c .refused-outcome .ensures)))
