@@ -26,7 +26,7 @@ const END_WIDTH: usize = 14;
 pub const MAX_LISTING: usize = HEADER_WIDTH + MALFORMED_WIDTH * limits::SCRIPT_SIZE + END_WIDTH;
 
 // What the call answers: 0 or a number of the scope paper's table, and the bytes that the listing takes.
-#[derive(Drop)]
+#[derive(Clone, Copy)]
 pub struct Written {
     pub number: u32,
     pub length: usize,

@@ -10,7 +10,7 @@ use bench_script::{events, parts};
 use script::{Header, ScriptEvent};
 
 // A line's event, and where the next line begins.
-#[derive(Drop)]
+#[derive(Clone, Copy)]
 pub struct LineRead {
     pub event: ScriptEvent,
     pub next: usize,

@@ -4,7 +4,7 @@ use contents::Message;
 use tally::limits;
 
 // The units, the message places, and how many of these are filled, from the front.
-#[derive(Drop)]
+#[derive(Clone, Copy)]
 pub struct Bench {
     pub units: [Unit; limits::SENDERS],
     pub messages: [Message; limits::PLACES],
@@ -12,7 +12,7 @@ pub struct Bench {
 }
 
 // The number of the message that an event sent.
-#[derive(Drop)]
+#[derive(Clone, Copy)]
 pub enum Sent {
     Nothing,
     At(u32),

@@ -9,7 +9,7 @@ use bench_script::{numbers, parts};
 pub const END: [u8; 4] = *b"end,";
 
 // A field of a line.
-#[derive(Drop)]
+#[derive(Clone, Copy)]
 pub enum Shown {
     Dash,
     Letter(u8),
@@ -17,7 +17,7 @@ pub enum Shown {
 }
 
 // An event's line.
-#[derive(Drop)]
+#[derive(Clone, Copy)]
 pub struct ListingLine {
     pub index: u32,
     pub letter: u8,

@@ -135,7 +135,7 @@ pub fn turn(unit: Unit, kept: u32, m: Message, e: ScriptEvent) -> Answer
 // ---- what comes of it
 
 // What a line shows beside its event: a refusal or None, the message sent, and a mileage decided or blank.
-#[derive(Drop)]
+#[derive(Clone, Copy)]
 pub struct LineOutcome {
     pub refusal: Refusal,
     pub sent: Sent,

@@ -5,7 +5,7 @@ use tally::{Estimate, Refusal, limits};
 
 // A log's eight numbers; the engine is its letter's number.
 #[repr(C)]
-#[derive(Drop)]
+#[derive(Clone, Copy)]
 pub struct LogFields {
     pub engine: u32,
     pub n: u32,
@@ -19,7 +19,7 @@ pub struct LogFields {
 
 // A tally's seventeen numbers: its marks, and sixteen estimates.
 #[repr(C)]
-#[derive(Drop)]
+#[derive(Clone, Copy)]
 pub struct TallyFields {
     pub marks: u32,
     pub estimates: [u32; limits::SENDERS],
@@ -27,7 +27,7 @@ pub struct TallyFields {
 
 // A row of a card holds the log and image contents of its entry: fifty numbers.
 #[repr(C)]
-#[derive(Drop)]
+#[derive(Clone, Copy)]
 pub struct CardRow {
     pub log: LogFields,
     pub image: LogFields,
@@ -36,14 +36,14 @@ pub struct CardRow {
 }
 
 // What a call asks of its row's unit.
-#[derive(Drop)]
+#[derive(Clone, Copy)]
 pub enum UnitStep {
     Propose(u32),
     Deliver(Message),
 }
 
 // What a call asks of its row, or what its buffers were refused for.
-#[derive(Drop)]
+#[derive(Clone, Copy)]
 pub enum Act {
     WrongLength,
     Malformed,
@@ -53,7 +53,7 @@ pub enum Act {
 }
 
 // A call on a card: the settings beside it, the row's number from 1, and what is asked.
-#[derive(Drop)]
+#[derive(Clone, Copy)]
 pub struct CardCall {
     pub engine: u32,
     pub n: u32,
@@ -63,7 +63,7 @@ pub struct CardCall {
 }
 
 // What a call tells its caller.
-#[derive(Drop)]
+#[derive(Clone, Copy)]
 pub struct Told {
     pub refusal: Refusal,
     pub message: Message,
@@ -71,14 +71,14 @@ pub struct Told {
 }
 
 // What a row answers: itself after the step, and what is told.
-#[derive(Drop)]
+#[derive(Clone, Copy)]
 pub struct RowAnswer {
     pub row: CardRow,
     pub told: Told,
 }
 
 // The settings beside a card, where they are in range.
-#[derive(Drop)]
+#[derive(Clone, Copy)]
 pub enum SettingsRead {
     Are(Settings),
     Bad,

@@ -9,7 +9,7 @@ use contents::{Log, Message, Settings, State};
 use tally::{Estimate, Refusal, Tally};
 
 // A unit is down, or up with estimates.
-#[derive(Drop)]
+#[derive(Clone, Copy)]
 pub enum Power {
     Down,
     Up,
@@ -17,7 +17,7 @@ pub enum Power {
 
 // A unit: what its log holds, and its current contents, which are lost at key-off. A down unit has its log's contents as the
 // current ones and no marks, so that nothing of a lost image is left to read.
-#[derive(Drop)]
+#[derive(Clone, Copy)]
 pub struct Unit {
     pub power: Power,
     pub settings: Settings,
@@ -28,7 +28,7 @@ pub struct Unit {
 }
 
 // What a step answers: a refusal or None, the unit after it, the message to send (kind Empty for none), and a mileage decided or blank.
-#[derive(Drop)]
+#[derive(Clone, Copy)]
 pub struct Answer {
     pub refusal: Refusal,
     pub unit: Unit,

@@ -4,7 +4,7 @@ use tally::limits::Round;
 use tally::{Engine, Estimate, Tally};
 
 // What a unit is started with: engine, number of units n, its own number, and the entry that it settles.
-#[derive(Drop)]
+#[derive(Clone, Copy)]
 pub struct Settings {
     pub engine: Engine,
     pub n: u8,
@@ -13,7 +13,7 @@ pub struct Settings {
 }
 
 // Where a unit stands in its entry.
-#[derive(Drop)]
+#[derive(Clone, Copy)]
 pub struct State {
     pub round: Round,
     pub proposal: Estimate,
@@ -22,7 +22,7 @@ pub struct State {
 }
 
 // A log: what a unit keeps over a key-off.
-#[derive(Drop)]
+#[derive(Clone, Copy)]
 pub struct Log {
     pub settings: Settings,
     pub state: State,
@@ -30,7 +30,7 @@ pub struct Log {
 
 // An image (the scope paper's term): what a unit has while it is up, lost at key-off. Its current contents, and the
 // CHECKs and SECONDs counted.
-#[derive(Drop)]
+#[derive(Clone, Copy)]
 pub struct Image {
     pub settings: Settings,
     pub state: State,
@@ -39,7 +39,7 @@ pub struct Image {
 }
 
 // FIRST, CHECK, SECOND and SKIP, the scope paper's kinds; an empty message counts as no message.
-#[derive(Drop)]
+#[derive(Clone, Copy)]
 pub enum Kind {
     Empty,
     First,
@@ -49,7 +49,7 @@ pub enum Kind {
 }
 
 // A message, with the sender's engine, n and entry. The receiver is a unit, or everyone.
-#[derive(Drop)]
+#[derive(Clone, Copy)]
 pub struct Message {
     pub kind: Kind,
     pub engine: Engine,

@@ -4,33 +4,33 @@ use contents::{Kind, Log, Message, State};
 use tally::{Engine, Refusal};
 
 // What a letter stands for.
-#[derive(Drop)]
+#[derive(Clone, Copy)]
 pub enum EngineRead {
     Is(Engine),
     Unknown,
 }
 
-#[derive(Drop)]
+#[derive(Clone, Copy)]
 pub enum KindRead {
     Is(Kind),
     Unknown,
 }
 
 // What reading finds.
-#[derive(Drop)]
+#[derive(Clone, Copy)]
 pub enum LogRead {
     Read(Log),
     Refused(Refusal),
 }
 
-#[derive(Drop)]
+#[derive(Clone, Copy)]
 pub enum MessageRead {
     Read(Message),
     Refused(Refusal),
 }
 
 // The state of an image that fits its log.
-#[derive(Drop)]
+#[derive(Clone, Copy)]
 pub enum StateRead {
     Fits(State),
     Unfit,

@@ -2,28 +2,28 @@
 use tally::Engine;
 
 // A field that should be a number.
-#[derive(Drop)]
+#[derive(Clone, Copy)]
 pub enum NumberRead {
     Malformed,
     Is(u32),
 }
 
 // Two fields that should be numbers.
-#[derive(Drop)]
+#[derive(Clone, Copy)]
 pub enum PairRead {
     Malformed,
     Are(u32, u32),
 }
 
 // Engine, n and entry.
-#[derive(Drop)]
+#[derive(Clone, Copy)]
 pub struct Header {
     pub engine: Engine,
     pub n: u8,
     pub entry: u16,
 }
 
-#[derive(Drop)]
+#[derive(Clone, Copy)]
 pub enum HeaderRead {
     Malformed,
     Is(Header),
@@ -31,7 +31,7 @@ pub enum HeaderRead {
 
 // A line's event. Each is of one unit; a proposal gives a mileage, a delivery a message number. Cut, key-off and key-on are the scope paper's
 // terms: a cut is its W, as a delivery, but the key goes off after the log write.
-#[derive(Drop)]
+#[derive(Clone, Copy)]
 pub enum ScriptEvent {
     Malformed,
     Propose(u32, u32),

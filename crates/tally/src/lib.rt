@@ -1,4 +1,6 @@
 // The base of the core: limits, refusals, engines, estimates, quorums, and tallies of estimates by sender.
+#![tactic(auto)]
+
 pub mod limits;
 
 ghost use Rattle.std.specs.Prelude.{◌≡◌, ◌<◌, ◌≤◌, ◌-◌, ◌^◌};
@@ -12,14 +14,14 @@ ghost use Rattle.tally.specs.Gathered.{anyMileage, hasValue, holders, common, lo
 ghost use Rattle.tally.specs.InnerGathered.{agrees};
 
 // The engines of the scope paper: B after B*-Consensus, R after R*-Consensus.
-#[derive(Drop)]
+#[derive(Clone, Copy)]
 pub enum Engine {
     B,
     R,
 }
 
 // A proposal or an estimate. Blank is the scope paper's term for the source's ⊥, split for its ⊤.
-#[derive(Drop)]
+#[derive(Clone, Copy)]
 pub enum Estimate {
     Blank,
     Split,
@@ -27,7 +29,7 @@ pub enum Estimate {
 }
 
 // Why a call is turned down: the rows of the scope paper's table, in its order, and then those of the change requests.
-#[derive(Drop)]
+#[derive(Clone, Copy)]
 pub enum Refusal {
     None,
     Length,
@@ -66,14 +68,14 @@ pub fn number(r: Refusal) -> u32
 }
 
 // One of the sixteen estimates of a tally.
-#[derive(Drop)]
+#[derive(Clone, Copy)]
 pub struct Cell {
     pub estimate: Estimate,
 }
 
 // The senders that have been counted, and what each of them sent. Sender marks (the scope paper's term) are
 // bits, of value 2 to the power of the unit.
-#[derive(Drop)]
+#[derive(Clone, Copy)]
 pub struct Tally {
     pub marks: u16,
     pub cells: [Cell; limits::SENDERS],
