@@ -35,13 +35,13 @@ module _ (l : Limits) (c : Setup) {X Y : Message → Type 0} {A C : ℕ → Type
       go (inl h) = kept m h t by
       go (inr n) = inr (stands m n t (sym by ∙ n.from.sender))
 
-  kept_here : VotesStand c Y u x.logged
-  kept_here = kept-with u x.logged member.kept (λ m n t e. n.stands t)
+  kept-here : VotesStand c Y u x.logged
+  kept-here = kept-with u x.logged member.kept (λ m n t e. n.stands t)
 
   -- a new vote is what the log holds, and so is any other vote of its round
   as-new : (a b : Message) → New l c X C u x.logged a → Y b → isVote a.kind ≡ true → a.kind ≡ b.kind → a.sender ≡ b.sender
       → a.round ≡ b.round → a.estimate ≡ b.estimate
-  as-new a b n y t k s r = go (n.stands t) (kept_here b y (rw k at t) (sym s ∙ n.from.sender))
+  as-new a b n y t k s r = go (n.stands t) (kept-here b y (rw k at t) (sym s ∙ n.from.sender))
     where
       go : Stands c x.logged a → (b.round < x.logged.round) ⊎ Stands c x.logged b → a.estimate ≡ b.estimate
       go p (inl h) = absurd (omega (arith, p.0))
@@ -67,7 +67,7 @@ module _ (l : Limits) (c : Setup) {X Y : Message → Type 0} {A C : ℕ → Type
       unit : (v : ℕ) → v < c.n → (b : Bool) → eqb v u ≡ b → Member l c Y C v (cond b x (N v))
       unit v below true e =
           rw (eqb-true v u e)
-          (record { well-formed = member.well-formed; settings = member.settings; fair = fair-up c up (λ v h. h) x member.fair; kept = kept_here })
+          (record { well-formed = member.well-formed; settings = member.settings; fair = fair-up c up (λ v h. h) x member.fair; kept = kept-here })
       unit v below false e =
           let i = inv.units v below in
           let kept = kept-with v (N v).logged i.kept (λ m n t q. absurd (eqb-false v u e q)) in

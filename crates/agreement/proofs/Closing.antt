@@ -21,20 +21,20 @@ use Rattle.tally.specs.declared.Tally.{Tally}
 use Rattle.tally.proofs.Count.{count-mono}
 use Rattle.tally.proofs.Never.{never}
 use Rattle.tally.proofs.Quorums.{quorum-half}
-use Rattle.tally.proofs.Tallies.{held_same, held-other, held-unmarked}
-use Rattle.contents.specs.Estimates.{is_b, isBlank, mileageOrSplit}
+use Rattle.tally.proofs.Tallies.{held-same, held-other, held-unmarked}
+use Rattle.contents.specs.Estimates.{isB, isBlank, mileageOrSplit}
 use Rattle.contents.specs.Messages.{kindOk}
 use Rattle.contents.specs.declared.Kind.{Kind}
 use Rattle.contents.specs.declared.Kind.TheVariants.{Empty, First, Check, Second, Skip}
 use Rattle.contents.specs.declared.Message.{Message}
 use Rattle.contents.proofs.KindRules.{check-mileage, second-estimate}
 use Rattle.contents.proofs.Facts.{message-facts}
-use Rattle.contents.proofs.Tests.{both_true}
+use Rattle.contents.proofs.Tests.{both-true}
 use Rattle.consensus.specs.Step.{orIfBlank, decided, nextProposal}
 use Rattle.consensus.proofs.Full.{Proper, voted, others, holds-mileage, full-voted, common-voted, lowest-voted, lowest-blank, lowest-not-split, next-r-blocks}
 use Rattle.consensus.proofs.Full.{next-r-voted}
 use Rattle.agreement.specs.Worlds.{Setup, Many}
-use Rattle.agreement.proofs.Votes.{Of, of, holds_not, meet, isVote, Vote, Unique, quorum, Quorum, Blocked, Sure, Chosen, one-quorum}
+use Rattle.agreement.proofs.Votes.{Of, of, holds-not, meet, isVote, Vote, Unique, quorum, Quorum, Blocked, Sure, Chosen, one-quorum}
 use Rattle.agreement.proofs.Invariant.{FairMessage, Tallied, vote-sure, quorum-sure}
 
 -- ---- what well-formed votes say
@@ -80,7 +80,7 @@ module _ (X : Message → Type 0) (k : Kind) (r : ℕ) where
           → Vote X k s r (held (mark t m.sender m.estimate) s)
       go true e h =
           let q = eqb-true s m.sender e in
-          let is = held_same t m.sender m.estimate long in
+          let is = held-same t m.sender m.estimate long in
           record { message = m; sent = here; kind = kind; sender = sym q; round = round; estimate = sym (rw q is) }
       go false e h = let is = held-other t m.sender s m.estimate (eqb-false s m.sender e) in rw is (tallied s (rw is at h))
 
@@ -97,16 +97,16 @@ module _ (X : Message → Type 0) (k : Kind) (r : ℕ) where
 -- ---- votes sent
 
 module _ (l : Limits) (c : Setup) (X : Message → Type 0) (A : ℕ → Type 0) (sent : (m : Message) → X m → FairMessage l c X A m) where
-  pub kind_ok : (k : Kind) (m : Message) → X m → m.kind ≡ k → kindOk l k m ≡ true
-  kind_ok k m s e = subst (λ j. kindOk l j m ≡ true) e (message-facts l m (sent m s).from.well-formed).kind
+  pub kind-ok : (k : Kind) (m : Message) → X m → m.kind ≡ k → kindOk l k m ≡ true
+  kind-ok k m s e = subst (λ j. kindOk l j m ≡ true) e (message-facts l m (sent m s).from.well-formed).kind
 
   pub filled : (m : Message) → X m → isVote m.kind ≡ true → isBlank m.estimate ≡ false
-  filled m s t = vote-filled l m.engine m.estimate (vote-ok l m.kind m t (kind_ok m.kind m s refl))
+  filled m s t = vote-filled l m.engine m.estimate (vote-ok l m.kind m t (kind-ok m.kind m s refl))
 
   -- in R a SECOND is a mileage
   second-mileage : c.engine ≡ R → {u r : ℕ} {e : Estimate} → Vote X Second u r e → (v : ℕ) × (e ≡ Mileage v)
   second-mileage isR {e = e} a =
-      let h = vote-ok l Second a.message refl (kind_ok Second a.message a.sent a.kind) in
+      let h = vote-ok l Second a.message refl (kind-ok Second a.message a.sent a.kind) in
       vote-mileage l e (rw ((sent a.message a.sent).from.engine, isR, a.estimate) at h)
 
   -- closing round r
@@ -121,7 +121,7 @@ module _ (l : Limits) (c : Setup) (X : Message → Type 0) (A : ℕ → Type 0) 
           who = others t v;
           many = omega arith;
           each = λ s o.
-              let p = both_true (voted t s) _ o in
+              let p = both-true (voted t s) _ o in
               record { estimate = held t s; vote = tallied s (not-true _ p.0); differs = not-true _ p.1 };
         }
 
@@ -149,7 +149,7 @@ module _ (l : Limits) (c : Setup) (X : Message → Type 0) (A : ℕ → Type 0) 
         many : (v : ℕ) → hasValue v p ≡ false → c.n < count c.n (others t v) + quorum c
         many v n =
             let q : quorum c ≡ quorumOf R c.n = rw isR in
-            omega (arith, next-r-blocks c.n t proper own v (exact ∙ q) (holds_not v p n))
+            omega (arith, next-r-blocks c.n t proper own v (exact ∙ q) (holds-not v p n))
 
         all : Many c.n (quorum c) (λ s. Unit)
         all = record { who = voted t; many = full-voted c.n t proper (quorum c) full; each = λ s h. tt }
@@ -164,7 +164,7 @@ module _ (l : Limits) (c : Setup) (X : Message → Type 0) (A : ℕ → Type 0) 
     -- B: the one mileage among them, or the own proposal where all are split
     b-above : c.engine ≡ B → (own : Estimate) → Sure c X A r own → Sure c X A (r + 1) (nextProposal B c.n t own)
     unfolding nextProposal
-    b-above is_b own old = go (lowest (gathered t)) refl
+    b-above isB own old = go (lowest (gathered t)) refl
       where
         many : (v : ℕ) → ((s : ℕ) → s < c.n → held t s ≡ Mileage v → ⊥) → c.n < count c.n (others t v) + quorum c
         many v f =
@@ -178,7 +178,7 @@ module _ (l : Limits) (c : Setup) (X : Message → Type 0) (A : ℕ → Type 0) 
         checks-of : (s v : ℕ) → held t s ≡ Mileage v → Quorum c X Check r (Mileage v)
         checks-of s v e =
             let a = seconds-of s v e in
-            subst (λ r. Quorum c X Check r (Mileage v)) a.round (rw a.estimate at ((sent a.message a.sent).backed.checked a.kind is_b))
+            subst (λ r. Quorum c X Check r (Mileage v)) a.round (rw a.estimate at ((sent a.message a.sent).backed.checked a.kind isB))
 
         go : (e : Estimate) → lowest (gathered t) ≡ e → Sure c X A (r + 1) (orIfBlank e own)
         go Blank e = above own (λ v n. many v (λ s b. lowest-blank c.n t proper (rw e refl) s b v)) old
@@ -186,7 +186,7 @@ module _ (l : Limits) (c : Setup) (X : Message → Type 0) (A : ℕ → Type 0) 
         go (Mileage w) e =
             let s = lowest-voted c.n t proper w e in
             above (Mileage w)
-            (λ v n. many v (λ i b h. holds_not v (Mileage w) n
+            (λ v n. many v (λ i b h. holds-not v (Mileage w) n
             (one-quorum c X unique Check refl r (Mileage w) (Mileage v) (checks-of s.0 w s.1.1) (checks-of i v h))))
             (sure s.0 w s.1.1)
 

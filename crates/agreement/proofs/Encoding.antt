@@ -9,7 +9,7 @@ use lib.Dec.{eqb}
 use lib.ListN.{length, get_elem?, replicate}
 use borrow.Author.Tests.{eqb-true, eqb-false, eq-eqb, lt-ltb, not-false}
 use Rattle.tally.specs.Limits.{Limits, Sane, logSize, imageSize, messageSize}
-use Rattle.tally.specs.Refusal.{number_of}
+use Rattle.tally.specs.Refusal.{numberOf}
 use Rattle.tally.proofs.Never.{never}
 use Rattle.contents.specs.Estimates.{mileageOrBlank}
 use Rattle.contents.specs.Messages.{messageOk}
@@ -19,10 +19,10 @@ use Rattle.contents.specs.declared.Message.{Message}
 use Rattle.contents.proofs.Facts.{known-or-blank}
 use Rattle.formats.specs.Codes.{kindLetter}
 use Rattle.formats.specs.Images.{imageBytes}
-use Rattle.formats.specs.Numbers.{bytes_of}
+use Rattle.formats.specs.Numbers.{bytesOf}
 use Rattle.formats.proofs.Letters.{estimate-code}
 use Rattle.consensus.specs.Methods as D
-use Rattle.consensus.specs.Conditions.{Condition, first_of, NoneHolds}
+use Rattle.consensus.specs.Conditions.{Condition, firstOf, NoneHolds}
 use Rattle.consensus.specs.Units.{WellFormed, unitLog, unitImage, downUnit, atLog}
 use Rattle.consensus.specs.declared.Answer.{Answer}
 use Rattle.consensus.specs.Step.{recovered}
@@ -70,8 +70,8 @@ module _ (l : Limits) (n : ℕ) (b : ByteWorld) (w : ContentsWorld) (enc : Encod
       }
 
   -- the unit has the same bytes as before
-  pub encodes_same : (u < n → x ≡ unitBytes l (w.units u)) → Encodes l n (change b u x) w
-  encodes_same same = record { units = put-bytes w.units same (λ v e. refl); sent = enc.sent; proposed = enc.proposed; decided = enc.decided }
+  pub encodes-same : (u < n → x ≡ unitBytes l (w.units u)) → Encodes l n (change b u x) w
+  encodes-same same = record { units = put-bytes w.units same (λ v e. refl); sent = enc.sent; proposed = enc.proposed; decided = enc.decided }
 
 -- ---- messages and decisions
 
@@ -81,7 +81,7 @@ all-zeros (suc k) = all-zeros k
 
 -- a message begins with its kind's letter, which is not 0
 pub letter-first : (l : Limits) (m : Message) → eqb (kindLetter m.kind % 256) 0 ≡ false → allZero (sentBytes l m) ≡ false
-unfolding bytes_of
+unfolding bytesOf
 letter-first l m letter = rw letter
 
 module _ (l : Limits) (n : ℕ) (b : ByteWorld) (w : ContentsWorld) (enc : Encodes l n b w) where
@@ -136,11 +136,11 @@ unchanged l cs log image out c r e =
 
 module _ (l : Limits) (sane : Sane l) (n : ℕ) (b : ByteWorld) (w : ContentsWorld) (enc : Encodes l n b w) (u : ℕ) where
   -- what an accepted step answered is what the call did, as bytes
-  module _ (a : Answer) (on : a.unit.power ≡ Up) (known : mileageOrBlank l a.decision ≡ true) (number : number_of a.refusal ≡ 0) where
+  module _ (a : Answer) (on : a.unit.power ≡ Up) (known : mileageOrBlank l a.decision ≡ true) (number : numberOf a.refusal ≡ 0) where
     encodes-after : (r : ℕ) → Encodes l n (B.after b u r (answered l a)) (C.after w u r a)
     unfolding B.after C.after
     encodes-after r =
-        rw (eq-eqb (number_of a.refusal) 0 number, estimate-code l sane a.decision (known-or-blank l a.decision known))
+        rw (eq-eqb (numberOf a.refusal) 0 number, estimate-code l sane a.decision (known-or-blank l a.decision known))
         (encodes-report l n _ _
         (encodes-keep l n _ _ (encodes-change l n b w enc u _ a.unit (λ h. rw on)) a.message.kind a.message refl)
         (decision u r a.decision))
@@ -148,16 +148,16 @@ module _ (l : Limits) (sane : Sane l) (n : ℕ) (b : ByteWorld) (w : ContentsWor
     encodes-proposal : (v : ℕ) → Encodes l n (B.afterProposal b u v (answered l a)) (C.afterProposal w u v a)
     unfolding B.afterProposal C.afterProposal
     encodes-proposal v =
-        rw (eq-eqb (number_of a.refusal) 0 number) (encodes-give l n _ _ (encodes-after 0) (record { unit = u; mileage = v }))
+        rw (eq-eqb (numberOf a.refusal) 0 number) (encodes-give l n _ _ (encodes-after 0) (record { unit = u; mileage = v }))
 
     encodes-cut : Encodes l n (B.afterCut b u (answered l a)) (C.afterCut w u a)
-    unfolding B.afterCut C.afterCut D.keyOff D.unless first_of downUnit atLog
-    encodes-cut = rw (eq-eqb (number_of a.refusal) 0 number, on) (encodes-change l n b w enc u _ _ (λ h. refl))
+    unfolding B.afterCut C.afterCut D.keyOff D.unless firstOf downUnit atLog
+    encodes-cut = rw (eq-eqb (numberOf a.refusal) 0 number, on) (encodes-change l n b w enc u _ _ (λ h. refl))
 
   -- a refused call leaves all units with their bytes
   module _ (on : (w.units u).power ≡ Up) (c : CallAnswer) (kept : BytesStay (logBytes l (unitLog (w.units u))) (imageBytes l (unitImage (w.units u))) c) where
     encodes-up : Encodes l n (change b u (up c.log c.image)) w
-    encodes-up = encodes_same l n b w enc u (up c.log c.image) (λ h. rw (kept.log, kept.image, on))
+    encodes-up = encodes-same l n b w enc u (up c.log c.image) (λ h. rw (kept.log, kept.image, on))
 
     refused-after : (r : ℕ) → Encodes l n (B.after b u r c) w
     unfolding B.after
@@ -175,7 +175,7 @@ module _ (l : Limits) (sane : Sane l) (n : ℕ) (b : ByteWorld) (w : ContentsWor
 module _ (l : Limits) (n : ℕ) (w : ContentsWorld) (cs : List Condition) (log image out : List ℕ) (c : CallAnswer)
     (law : Refusing l cs log image out c) (a : Answer)
     (same : NoneHolds cs → c ≡ answered l a) (f : CallAnswer → ByteWorld) where
-  follow : (e : C.ContentsEvent) → (number_of a.refusal ≡ 0 → Encodes l n (f (answered l a)) (C.step l n w e))
+  follow : (e : C.ContentsEvent) → (numberOf a.refusal ≡ 0 → Encodes l n (f (answered l a)) (C.step l n w e))
       → (BytesStay log image c → Encodes l n (f c) w)
       → Follows l n (f c) w
   follow e accepted refused = go (eqb c.number 0) refl
@@ -199,7 +199,7 @@ module _ (l : Limits) (sane : Sane l) (n : ℕ) (b : ByteWorld) (w : ContentsWor
 
   module _ (on : (w.units u).power ≡ Up) (out : List ℕ) where
     -- an accepted proposal's answer, as bytes
-    pub step-proposal : (v : ℕ) → number_of (D.propose l (w.units u) v).refusal ≡ 0
+    pub step-proposal : (v : ℕ) → numberOf (D.propose l (w.units u) v).refusal ≡ 0
         → Encodes l n (B.afterProposal b u v (answered l (D.propose l (w.units u) v))) (C.step l n w (C.proposal u v))
     unfolding C.step C.apply
     step-proposal v number =
@@ -220,7 +220,7 @@ module _ (l : Limits) (sane : Sane l) (n : ℕ) (b : ByteWorld) (w : ContentsWor
       -- an accepted delivery's answer, as bytes, where f is what the event makes of it and e is of contents
       abbrev pub Delivers : (CallAnswer → ByteWorld) → C.ContentsEvent → Type 0
       Delivers f e =
-          number_of (D.deliver l (w.units u) m).refusal ≡ 0 → Encodes l n (f (answered l (D.deliver l (w.units u) m))) (C.step l n w e)
+          numberOf (D.deliver l (w.units u) m).refusal ≡ 0 → Encodes l n (f (answered l (D.deliver l (w.units u) m))) (C.step l n w e)
 
       -- a delivery or a cut of it
       on-message : (f : CallAnswer → ByteWorld) (e : C.ContentsEvent) → Delivers f e → ((c : CallAnswer) → BytesStay log image c → Encodes l n (f c) w)
@@ -249,16 +249,16 @@ module _ (l : Limits) (sane : Sane l) (n : ℕ) (b : ByteWorld) (w : ContentsWor
         on-delivery =
             on-message (B.after b u m.round) (C.delivery u k) step-delivery (λ c kept. refused-after l sane n b w enc u on c kept m.round)
 
-        pub step_cut : Delivers (B.afterCut b u) (C.cut u k)
+        pub step-cut : Delivers (B.afterCut b u) (C.cut u k)
         unfolding C.step C.apply C.delivering
-        step_cut number = rw (lt-ltb u n below, there) (encodes-cut l sane n b w enc u (D.deliver l (w.units u) m) power known number)
+        step-cut number = rw (lt-ltb u n below, there) (encodes-cut l sane n b w enc u (D.deliver l (w.units u) m) power known number)
 
         pub on-cut : Follows l n (B.afterCut b u (deliverCall l log image (sentBytes l m) out)) w
-        on-cut = on-message (B.afterCut b u) (C.cut u k) step_cut (λ c kept. refused-cut l sane n b w enc u on c kept)
+        on-cut = on-message (B.afterCut b u) (C.cut u k) step-cut (λ c kept. refused-cut l sane n b w enc u on c kept)
 
   -- key-off, of a unit up or down
   pub step-off : Encodes l n (change b u (down (b.units u).log)) (C.step l n w (C.off u))
-  unfolding C.step C.apply D.keyOff D.unless first_of downUnit atLog
+  unfolding C.step C.apply D.keyOff D.unless firstOf downUnit atLog
   step-off = rw (lt-ltb u n below) (encodes-change l n b w enc u _ _ (λ h. rw (enc.units u below) (go (w.units u).power refl)))
     where
       go : (p : Power) → (w.units u).power ≡ p → down (unitBytesAt l p (w.units u)).log ≡ unitBytes l (D.keyOff (w.units u)).unit
@@ -271,7 +271,7 @@ module _ (l : Limits) (sane : Sane l) (n : ℕ) (b : ByteWorld) (w : ContentsWor
   -- key-on of a down unit, whatever the image buffer held
   module _ (off : (w.units u).power ≡ Down) (buffer : List ℕ) where
     pub step-on : length buffer ≡ imageSize l → Encodes l n (B.afterKeyOn b u (keyOnCall l log buffer)) (C.step l n w (C.on u))
-    unfolding B.afterKeyOn C.step C.apply D.keyOn D.unless first_of downUnit atLog recovered
+    unfolding B.afterKeyOn C.step C.apply D.keyOn D.unless firstOf downUnit atLog recovered
     step-on size =
         rw (key-on-encoded l sane (unitLog (w.units u)) buffer (valid.units u below).log size, lt-ltb u n below)
         (encodes-change l n b w enc u _ _ (λ h. rw off))
@@ -289,4 +289,4 @@ module _ (l : Limits) (sane : Sane l) (n : ℕ) (b : ByteWorld) (w : ContentsWor
             inr (C.on u, step-on (or-length (wrongLength log (logSize l)) buffer (imageSize l) none.0))
         go false e =
             let kept = unchanged l (keyOnCallConditions l log buffer) log buffer [] c (key-on-refusing l log buffer) e in
-            inl (rw e (encodes_same l n b w enc u (down c.log) (λ h. rw (kept.log, off))))
+            inl (rw e (encodes-same l n b w enc u (down c.log) (λ h. rw (kept.log, off))))

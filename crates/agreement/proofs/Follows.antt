@@ -24,8 +24,8 @@ use Rattle.agreement.specs.Bytes.{after, step, LawfulEvent}
 use Rattle.agreement.specs.Contents.{ContentsWorld}
 use Rattle.agreement.specs.Encoded.{unitBytesAt, sentBytes, Encodes}
 use Rattle.agreement.proofs.Encoding.{Valid, Follows, on-proposal, on-delivery, on-cut, on-off, on-key}
-use Rattle.agreement.proofs.History.{at_place}
-use Rattle.agreement.proofs.Refused.{has-log, on_call}
+use Rattle.agreement.proofs.History.{at-place}
+use Rattle.agreement.proofs.Refused.{has-log, on-call}
 
 -- the bytes of a message, if there is one
 abbrev pub bytesIf : Limits → Option Message → Option (List ℕ)
@@ -39,7 +39,7 @@ sent-at l (m ∷ ms) (suc k) = sent-at l ms k
 
 pub sent-in : (ms : List Message) (k : ℕ) (m : Message) → get_elem? ms k ≡ some m → Memᴰ m ms
 sent-in ms k m =
-    at_place (λ o. o ≡ some m → Memᴰ m ms) ms (λ h. never cc) (λ a i h. let e : a ≡ m = cc in subst (λ z. Memᴰ z ms) e i) k
+    at-place (λ o. o ≡ some m → Memᴰ m ms) ms (λ h. never cc) (λ a i h. let e : a ≡ m = cc in subst (λ z. Memᴰ z ms) e i) k
 
 module _ (l : Limits) (sane : Sane l) (n : ℕ) (b : ByteWorld) (w : ContentsWorld) (enc : Encodes l n b w) (valid : Valid l n w) where
   -- an event of a unit below n; of another nothing comes
@@ -96,13 +96,13 @@ module _ (l : Limits) (sane : Sane l) (n : ℕ) (b : ByteWorld) (w : ContentsWor
         go Up e = inl enc
         go Down e = rw (has-log l sane n w valid b enc u below) (on-key l sane n b w enc valid u below e buffer)
 
-  pub step_follows : (e : Event) → LawfulEvent l b e → Follows l n (step l n b e) w
+  pub step-follows : (e : Event) → LawfulEvent l b e → Follows l n (step l n b e) w
   unfolding step
-  step_follows (proposal u v out) h = of-unit u _ (λ below. proposal-of u below v out)
-  step_follows (delivery u k out) h = of-unit u _ (λ below. delivery-of u below k out)
-  step_follows (cut u k out) h =
+  step-follows (proposal u v out) h = of-unit u _ (λ below. proposal-of u below v out)
+  step-follows (delivery u k out) h = of-unit u _ (λ below. delivery-of u below k out)
+  step-follows (cut u k out) h =
       of-unit u _ (λ below.
       delivering-of u below k out (λ m c. afterCut b u c) (λ e m ok h. on-cut l sane n b w enc valid u below e out m ok k h))
-  step_follows (off u) h = of-unit u _ (λ below. on-off l sane n b w enc valid u below)
-  step_follows (on u buffer) h = of-unit u _ (λ below. key-on-of u below buffer)
-  step_follows (call c) h = inl (on_call l sane n w valid b enc c h)
+  step-follows (off u) h = of-unit u _ (λ below. on-off l sane n b w enc valid u below)
+  step-follows (on u buffer) h = of-unit u _ (λ below. key-on-of u below buffer)
+  step-follows (call c) h = inl (on-call l sane n w valid b enc c h)

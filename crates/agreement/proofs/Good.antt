@@ -30,7 +30,7 @@ use Rattle.contents.specs.declared.State.{State}
 use Rattle.contents.proofs.Facts.{message-facts, image-facts}
 use Rattle.contents.proofs.KindRules.{check-mileage}
 use Rattle.contents.proofs.Same.{Fits, state-fits}
-use Rattle.contents.proofs.Tests.{both_true}
+use Rattle.contents.proofs.Tests.{both-true}
 use Rattle.consensus.specs.Methods.{unless, proposeConditions, propose, deliverConditions, deliver, keyOff, keyOn}
 use Rattle.consensus.specs.Conditions.{Condition}
 use Rattle.consensus.specs.Step.{quiet, says, withFirst, withSecond, logWrite, atRound, orIfBlank, sendFirst, proposed, voteKind, voteProposal}
@@ -40,10 +40,10 @@ use Rattle.consensus.specs.declared.Answer.{Answer}
 use Rattle.consensus.specs.declared.Power.{Power}
 use Rattle.consensus.specs.declared.Power.TheVariants.{Down, Up}
 use Rattle.consensus.specs.declared.Unit as U
-use Rattle.consensus.proofs.Branches.{by_kind, by-check, by-second, by-round, by-unless}
+use Rattle.consensus.proofs.Branches.{by-kind, by-check, by-second, by-round, by-unless}
 use Rattle.consensus.proofs.Full.{Proper, proper-mark, proper-none, proper-unit}
 use Rattle.agreement.specs.Worlds.{Setup, settingsOf}
-use Rattle.agreement.proofs.Closing.{tallied-none, tallied-mark, kind_ok, filled, common-quorum, next-sure, chosen}
+use Rattle.agreement.proofs.Closing.{tallied-none, tallied-mark, kind-ok, filled, common-quorum, next-sure, chosen}
 use Rattle.agreement.proofs.Votes.{Of, of, isVote, Unique, quorum, Quorum, Sure, sure-of, Chosen}
 use Rattle.agreement.proofs.Invariant.{Backed, FairMessage, Member, half, slot, Stands, VotesStand, Tallied, Fair, quorum-sure}
 
@@ -74,7 +74,7 @@ unfolding fits
 ready l c u x w =
     let p = proper-unit l (seated c u x) w in
     record {
-      fits = state-fits x.current x.logged (both_true (sameSettings (settingsOf c u) (settingsOf c u)) _ w.fit).1;
+      fits = state-fits x.current x.logged (both-true (sameSettings (settingsOf c u) (settingsOf c u)) _ w.fit).1;
       checks = p.0;
       seconds = p.1;
       few = (image-facts l (unitImage (seated c u x)) w.image).seconds.few;
@@ -160,9 +160,9 @@ module _ (c : Setup) (X : Message → Type 0) (A : ℕ → Type 0) where
 module _ (l : Limits) (c : Setup) (X : Message → Type 0) (A : ℕ → Type 0) (sent : (m : Message) → X m → FairMessage l c X A m) (unique : Unique X) where
   module _ (u : ℕ) (x : U.Unit) (i : Ready c (seated c u x)) (f : Fair c X A (seated c u x)) (kept : VotesStand c X u x.logged) where
     -- a state of the current round that has each estimate which was not blank has what was voted
-    kept_on : (s : State) → s.round ≡ x.current.round → ((b : Bool) → isBlank (half b x.current) ≡ false → half b s ≡ half b x.current)
+    kept-on : (s : State) → s.round ≡ x.current.round → ((b : Bool) → isBlank (half b x.current) ≡ false → half b s ≡ half b x.current)
         → VotesStand c X u s
-    kept_on s same stays m here t by = go i.fits (kept m here t by)
+    kept-on s same stays m here t by = go i.fits (kept m here t by)
       where
         halves : (x.logged.first ≡ x.current.first) × (x.logged.second ≡ x.current.second) → (b : Bool)
             → half b x.logged ≡ half b x.current
@@ -186,7 +186,7 @@ module _ (l : Limits) (c : Setup) (X : Message → Type 0) (A : ℕ → Type 0) 
       good-first free =
           record {
             fair = record { logged = f.current; current = f.current; checks = f.checks; seconds = f.seconds };
-            kept = kept_on (withFirst x.current m.proposal) refl stays;
+            kept = kept-on (withFirst x.current m.proposal) refl stays;
             message = λ h. (
               record {
                 proposal = proposal c.engine;
@@ -219,7 +219,7 @@ module _ (l : Limits) (c : Setup) (X : Message → Type 0) (A : ℕ → Type 0) 
       good-check b free t proper tallied full =
           record {
             fair = record { logged = f.current; current = f.current; checks = tallied-none X _ _; seconds = f.seconds };
-            kept = kept_on (withSecond x.current (common (gathered t))) refl stays;
+            kept = kept-on (withSecond x.current (common (gathered t))) refl stays;
             message = λ h. (
               record {
                 proposal = f.current;
@@ -266,7 +266,7 @@ module _ (l : Limits) (c : Setup) (X : Message → Type 0) (A : ℕ → Type 0) 
       good-kind : Good c X A u x.current.round (onKind m.kind (seated c u x) m)
       unfolding checksWith secondsWith isFull mark
       good-kind =
-          by_kind (Good c X A u x.current.round) m.kind (seated c u x) m
+          by-kind (Good c X A u x.current.round) m.kind (seated c u x) m
           (record {
             nothing = good-silent c X A Refusal.None u _ (seated c u x) f kept;
             first = λ e. good-first;
@@ -274,7 +274,7 @@ module _ (l : Limits) (c : Setup) (X : Message → Type 0) (A : ℕ → Type 0) 
                 let p = proper-with Check refl e x.checks i.checks f.checks in
                 let t = tallied-with Check refl e x.checks i.checks f.checks in
                 by-check (Good c X A u x.current.round) (seated c u x) (checksWith (seated c u x) m)
-                (λ h. good-check (sym (sent m here).from.engine ∙ (check-mileage l m (kind_ok l c X A sent Check m here e)).0) free _ p t (leb-true _ _ h))
+                (λ h. good-check (sym (sent m here).from.engine ∙ (check-mileage l m (kind-ok l c X A sent Check m here e)).0) free _ p t (leb-true _ _ h))
                 (λ h. good-silent c X A Refusal.None u _ _ (record { logged = f.logged; current = f.current; checks = t; seconds = f.seconds }) kept);
             seconds = λ e n.
                 let p = proper-with Second refl e x.seconds i.seconds f.seconds in

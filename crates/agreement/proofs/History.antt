@@ -31,7 +31,7 @@ use Rattle.agreement.specs.Contents.{afterCut, afterProposal, delivering, apply,
 use Rattle.agreement.specs.Worlds.{Setup, settingsOf, Proposal, Decision, put, change, keep, report, decision, run, Given, Locked, Many, Seconded}
 use Rattle.consensus.proofs.Answers.{propose-keeps}
 use Rattle.consensus.proofs.Soundness.{sound-propose, sound-deliver, sound-key-off, sound-key-on, well-fresh}
-use Rattle.agreement.proofs.Votes.{Of, of_map, many-map, Sure, Chosen}
+use Rattle.agreement.proofs.Votes.{Of, of-map, many-map, Sure, Chosen}
 use Rattle.agreement.proofs.Invariant.{Member, Invariant, locked-at, agreement, fair-up}
 use Rattle.agreement.proofs.Changed.{New, changed}
 use Rattle.agreement.proofs.Good.{Good, fair-none, good-off, good-on, good-propose, good-deliver}
@@ -67,10 +67,10 @@ module _ {A : Type 0} where
       go (inr m) = inr (subst P (sym (Memᴰ.eq_of_singleton m)) p)
 
   -- what is found at a place is in the list
-  pub at_place : (P : Option A → Type 0) (xs : List A) → P none → ((a : A) → Memᴰ a xs → P (some a)) → (k : ℕ) → P (get_elem? xs k)
-  at_place P [] p f k = p
-  at_place P (x ∷ xs) p f zero = f x (Memᴰ.head refl)
-  at_place P (x ∷ xs) p f (suc k) = at_place P xs p (λ a h. f a (Memᴰ.tail h)) k
+  pub at-place : (P : Option A → Type 0) (xs : List A) → P none → ((a : A) → Memᴰ a xs → P (some a)) → (k : ℕ) → P (get_elem? xs k)
+  at-place P [] p f k = p
+  at-place P (x ∷ xs) p f zero = f x (Memᴰ.head refl)
+  at-place P (x ∷ xs) p f (suc k) = at-place P xs p (λ a h. f a (Memᴰ.tail h)) k
 
 -- a message sent is not empty
 when-sent : (P : Message → Type 0) (k : Kind) (m : Message) → ((k ≡ Empty → ⊥) → P m) → When P (unlessEmpty k m)
@@ -95,9 +95,9 @@ answerAdded w ps u r a =
       decided = added w.decided (decision u r a.decision);
     }
 
-pub after_is : (w : ContentsWorld) (u r : ℕ) (a : Answer) → after w u r a ≡ answerAdded w w.proposed u r a
+pub after-is : (w : ContentsWorld) (u r : ℕ) (a : Answer) → after w u r a ≡ answerAdded w w.proposed u r a
 unfolding after
-after_is w u r a = go (unlessEmpty a.message.kind a.message) (decision u r a.decision)
+after-is w u r a = go (unlessEmpty a.message.kind a.message) (decision u r a.decision)
   where
     go : (o : Option Message) (d : Option Decision) → report (keep (change w u a.unit) o) d
         ≡ record { units = put w.units u a.unit; sent = added w.sent o; proposed = w.proposed; decided = added w.decided d }
@@ -166,9 +166,9 @@ module _ (l : Limits) (c : Setup) (w : ContentsWorld) (inv : Inv l c w) where
           go (inl e) = absurd (n (ap (λ m. m.kind) e))
           go (inr f) = subst (λ s. From l s a.message) settings f
 
-    after_next : (ps : List Proposal) → ((v : ℕ) → A v → Proposed ps v) → (r : ℕ) (a : Answer) → Sound l (w.units u) a
+    after-next : (ps : List Proposal) → ((v : ℕ) → A v → Proposed ps v) → (r : ℕ) (a : Answer) → Sound l (w.units u) a
         → Good c X (Proposed ps) u r a → Of A a.decision → Next l c w (answerAdded w ps u r a)
-    after_next ps more r a sound good given =
+    after-next ps more r a sound good given =
         record {
           inv =
               changed l c w.units inv u a.unit (member C r (w.units u) here.settings a sound good) (added-up w.sent o) more
@@ -204,8 +204,8 @@ module _ (l : Limits) (c : Setup) (w : ContentsWorld) (inv : Inv l c w) where
           later = record { sent = λ m h. h; proposed = λ v h. h };
         }
 
-    off_next : (y : U.Unit) → Member l c X A u y → Next l c w (change w u (keyOff y).unit)
-    off_next y i = change-next y i.settings (keyOff y) (sound-key-off l y i.well-formed) (good-off c X A u 0 y i.fair i.kept)
+    off-next : (y : U.Unit) → Member l c X A u y → Next l c w (change w u (keyOff y).unit)
+    off-next y i = change-next y i.settings (keyOff y) (sound-key-off l y i.well-formed) (good-off c X A u 0 y i.fair i.kept)
 
     on-next : (y : U.Unit) → Member l c X A u y → Next l c w (change w u (keyOn y).unit)
     on-next y i = change-next y i.settings (keyOn y) (sound-key-on l y i.well-formed) (good-on c X A u 0 y i.fair i.kept)
@@ -214,8 +214,8 @@ module _ (l : Limits) (c : Setup) (w : ContentsWorld) (inv : Inv l c w) where
     unfolding afterProposal
     proposal-next v =
         if (isAccepted a)
-        (λ h. rw (after_is w u 0 a)
-        (after_next (w.proposed ++ (p ∷ [])) more 0 a (sound-propose l (w.units u) v here.well-formed)
+        (λ h. rw (after-is w u 0 a)
+        (after-next (w.proposed ++ (p ∷ [])) more 0 a (sound-propose l (w.units u) v here.well-formed)
         (good-propose c X _ u 0 (w.units u) (fair-up c (λ m h. h) more (w.units u) here.fair) here.kept l v
         (u, Memᴰ.append_right w.proposed (Memᴰ.head refl)))
         (rw (propose-keeps l (w.units u) v).1 tt)))
@@ -238,24 +238,24 @@ module _ (l : Limits) (c : Setup) (w : ContentsWorld) (inv : Inv l c w) where
 
       delivery-next : Next l c w (after w u m.round (deliver l (w.units u) m))
       delivery-next =
-          rw (after_is w u m.round (deliver l (w.units u) m))
-          (after_next w.proposed (λ v h. h) m.round (deliver l (w.units u) m) sound good
-          (of_map {F = Chosen c X A m.round} (λ v h. h.1) (deliver l (w.units u) m).decision good.decision))
+          rw (after-is w u m.round (deliver l (w.units u) m))
+          (after-next w.proposed (λ v h. h) m.round (deliver l (w.units u) m) sound good
+          (of-map {F = Chosen c X A m.round} (λ v h. h.1) (deliver l (w.units u) m).decision good.decision))
 
       cut-next : Next l c w (afterCut w u (deliver l (w.units u) m))
       unfolding afterCut
       cut-next =
           if (isAccepted (deliver l (w.units u) m))
-          (λ h. off_next (deliver l (w.units u) m).unit (member A m.round (w.units u) here.settings _ sound good))
+          (λ h. off-next (deliver l (w.units u) m).unit (member A m.round (w.units u) here.settings _ sound good))
 
   apply-next : (e : ContentsEvent) → contentsUnit e < c.n → Next l c w (apply l w e)
   unfolding apply delivering
   apply-next (proposal u v) b = proposal-next u (inv.units u b) v
   apply-next (delivery u k) b =
-      at_place (λ o. Next l c w (delivering l w u (λ m a. after w u m.round a) o)) w.sent same (delivery-next u (inv.units u b)) k
+      at-place (λ o. Next l c w (delivering l w u (λ m a. after w u m.round a) o)) w.sent same (delivery-next u (inv.units u b)) k
   apply-next (cut u k) b =
-      at_place (λ o. Next l c w (delivering l w u (λ m a. afterCut w u a) o)) w.sent same (cut-next u (inv.units u b)) k
-  apply-next (off u) b = off_next u (inv.units u b) (w.units u) (inv.units u b)
+      at-place (λ o. Next l c w (delivering l w u (λ m a. afterCut w u a) o)) w.sent same (cut-next u (inv.units u b)) k
+  apply-next (off u) b = off-next u (inv.units u b) (w.units u) (inv.units u b)
   apply-next (on u) b = on-next u (inv.units u b) (w.units u) (inv.units u b)
 
   step-next : (e : ContentsEvent) → Next l c w (step l c.n w e)

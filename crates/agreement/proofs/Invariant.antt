@@ -12,7 +12,7 @@ use Rattle.tally.specs.declared.Engine.TheVariants.{B}
 use Rattle.tally.specs.declared.Estimate.{Estimate}
 use Rattle.tally.specs.declared.Estimate.TheVariants.{Mileage}
 use Rattle.tally.specs.declared.Tally.{Tally}
-use Rattle.contents.specs.Estimates.{is_b, isBlank}
+use Rattle.contents.specs.Estimates.{isB, isBlank}
 use Rattle.contents.specs.declared.Kind.{Kind}
 use Rattle.contents.specs.declared.Kind.TheVariants.{Check, Second}
 use Rattle.contents.specs.declared.Message.{Message}
@@ -22,7 +22,7 @@ use Rattle.consensus.specs.Sound.{From}
 use Rattle.consensus.specs.Units.{WellFormed}
 use Rattle.consensus.specs.declared.Unit as U
 use Rattle.agreement.specs.Worlds.{Setup, settingsOf, Decision, Locked}
-use Rattle.agreement.proofs.Votes.{Of, of_map, shared, isVote, Vote, Unique, Quorum, Sure, SureOf, Chosen, one-quorum, locked, vote-up, quorum-up}
+use Rattle.agreement.proofs.Votes.{Of, of-map, shared, isVote, Vote, Unique, Quorum, Sure, SureOf, Chosen, one-quorum, locked, vote-up, quorum-up}
 use Rattle.agreement.proofs.Votes.{sure-up}
 
 -- what is safe in a message
@@ -42,7 +42,7 @@ half b s = cond b s.second s.first
 
 -- a vote stands in a log: a SECOND of B is the second estimate, the others are the first
 abbrev pub slot : Engine → Kind → Bool
-slot g k = is_b g && isSecond k
+slot g k = isB g && isSecond k
 
 abbrev pub Stands : Setup → State → Message → Type 0
 Stands c s m = (m.round ≡ s.round) × (half (slot c.engine m.kind) s ≡ m.estimate)
@@ -117,8 +117,8 @@ module _ (c : Setup) {X Y : Message → Type 0} (up : (m : Message) → X m → 
   backed-up m b =
       record {
         proposal = sure-up c up more m.round m.proposal b.proposal;
-        estimate = of_map (λ v s. sure-up c up more m.round (Mileage v) s) m.estimate b.estimate;
-        checked = λ k g. of_map (λ v a. quorum-up c up a) m.estimate (b.checked k g);
+        estimate = of-map (λ v s. sure-up c up more m.round (Mileage v) s) m.estimate b.estimate;
+        checked = λ k g. of-map (λ v a. quorum-up c up a) m.estimate (b.checked k g);
       }
 
   pub fair-up : (x : U.Unit) → Fair c X A x → Fair c Y C x

@@ -5,7 +5,7 @@ use mathlib.Core.List.{List, [], ◌∷◌, map}
 use lib.Count.{ones}
 use lib.ListN.{replicate, get_elem?}
 use mathlib.Core.Option.{some}
-use Rattle.tally.specs.Count.{up_to}
+use Rattle.tally.specs.Count.{upTo}
 use Rattle.tally.specs.Limits.{today, logSize, imageSize, messageSize}
 use Rattle.tally.specs.declared.Engine.TheVariants.{B, R}
 use Rattle.tally.specs.Gathered.{holders, allHold, common, firstPassing, leads, majority}
@@ -14,11 +14,11 @@ use Rattle.contents.specs.Estimates.{mileageOrBlank, mileageOrSplit, secondEstim
 use Rattle.contents.specs.Logs.{stateOk, logOk}
 use Rattle.contents.specs.Images.{every, cellOk, cellsOk, tallyOk, checksAllowed, imageOk, sameSettings, stateFits, fits}
 use Rattle.contents.specs.Messages.{firstOk, checkOk, secondOk, skipOk, kindOk, messageOk}
-use Rattle.formats.specs.Numbers.{num_at, bytes_of}
-use Rattle.formats.specs.Logs.{read_log}
+use Rattle.formats.specs.Numbers.{numAt, bytesOf}
+use Rattle.formats.specs.Logs.{readLog}
 use Rattle.formats.specs.Messages.{readMessage, cleared}
 use Rattle.formats.specs.Images.{readImage, imageBytes}
-use Rattle.consensus.specs.Conditions.{first_of}
+use Rattle.consensus.specs.Conditions.{firstOf}
 use Rattle.consensus.specs.Units.{atLog, downUnit}
 use Rattle.consensus.specs.Step.{says, logWrite, atRound, fresh, recovered, sendFirst, proposed, takeFirst, onFirst, isFull, takeSecond, countCheck, checksWith}
 use Rattle.consensus.specs.Step.{onCheck, nextProposal, close, countSecond, secondsWith, onSecond, onKind, skip, caughtUp, received}
@@ -26,7 +26,7 @@ use Rattle.consensus.specs.Methods.{forOther, outOfRange, closesLast, unless, pr
 use Rattle.calls.specs.Calls.{unitLengths, badLog, badSettings, badImage, badMessage, logBytes, messageBytes, startCallConditions, startCall}
 use Rattle.calls.specs.Calls.{keyOnCallConditions, keyOnCall, proposeCallConditions, proposeCall, deliverCallConditions, deliverCall}
 use Rattle.calls.proofs.Examples.{mileage, blank, log, unmarked, message, junk, F, C, S, K, B as letterB, R as letterR}
-use Rattle.agreement.specs.Bytes.{start_of, ByteWorld, up, Event, proposal, delivery, cut, off, on, begun, after, afterProposal, afterCut, afterKeyOn}
+use Rattle.agreement.specs.Bytes.{startOf, ByteWorld, up, Event, proposal, delivery, cut, off, on, begun, after, afterProposal, afterCut, afterKeyOn}
 use Rattle.agreement.specs.Bytes.{proposalOf, delivering, keyOnOf, step}
 use Rattle.agreement.specs.Worlds.{Setup, run}
 
@@ -45,7 +45,7 @@ images u = junk (imageSize today)
 
 -- the numbers of the starts, and the world after the events
 abbrev starts : Setup → List ℕ
-starts c = map (λ u. (start_of today c logs images u).number) (up_to c.n)
+starts c = map (λ u. (startOf today c logs images u).number) (upTo c.n)
 
 abbrev after' : Setup → List Event → ByteWorld
 after' c es = run (step today c.n) (begun today c logs images) es
@@ -132,7 +132,7 @@ pub record Majority (w : ByteWorld) : Type 0 where
 pub computed : (starts of3 ≡ replicate 3 0) × (OfListing (after' of3 listing) × ((starts of4 ≡ replicate 4 0) × Majority (after' of4 of-r)))
 unfolding ones holders allHold common firstPassing leads majority noMarks mark gatheredFrom gathered
     mileageOrBlank mileageOrSplit secondEstimateOk sameMileage stateOk logOk every cellOk cellsOk tallyOk checksAllowed imageOk sameSettings stateFits fits
-    firstOk checkOk secondOk skipOk kindOk messageOk num_at bytes_of read_log readMessage cleared readImage imageBytes first_of atLog downUnit says logWrite
+    firstOk checkOk secondOk skipOk kindOk messageOk numAt bytesOf readLog readMessage cleared readImage imageBytes firstOf atLog downUnit says logWrite
     atRound fresh recovered sendFirst proposed takeFirst onFirst isFull takeSecond countCheck checksWith onCheck nextProposal close countSecond
     secondsWith onSecond onKind skip caughtUp received forOther outOfRange closesLast unless proposeConditions propose deliverConditions deliver keyOn
     unitLengths badLog badSettings badImage badMessage logBytes messageBytes startCallConditions startCall keyOnCallConditions keyOnCall proposeCallConditions

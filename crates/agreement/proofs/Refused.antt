@@ -9,8 +9,8 @@ use lib.Dec.{eqb}
 use lib.ListN.{length}
 use borrow.Author.Tests.{ne_eqb}
 use Rattle.tally.specs.Limits.{Limits, Sane, messageSize}
-use Rattle.tally.proofs.Count.{Each, each_map}
-use Rattle.formats.specs.Formats.{wrote, Format, fromNumbers, readBytes, to_bytes}
+use Rattle.tally.proofs.Count.{Each, each-map}
+use Rattle.formats.specs.Formats.{wrote, Format, fromNumbers, readBytes, toBytes}
 use Rattle.formats.specs.Images.{imageBytes}
 use Rattle.formats.specs.Logs.{logFormat}
 use Rattle.formats.specs.Messages.{messageFormat, cleared}
@@ -26,26 +26,26 @@ use Rattle.agreement.specs.Bytes.{ByteWorld, Lent, lentLog, lentImage, other, Ca
 use Rattle.agreement.specs.Bytes.{writesMessage, lentBytes, bytesOr, imageLeft, Exit, runCall, ended, leave, leaveAll}
 use Rattle.agreement.specs.Contents.{ContentsWorld}
 use Rattle.agreement.specs.Encoded.{unitBytesAt, Encodes}
-use Rattle.agreement.proofs.Encoding.{Valid, encodes_same}
+use Rattle.agreement.proofs.Encoding.{Valid, encodes-same}
 
 -- a buffer at exit holds what it held, or that cleared
 abbrev ExitStays : Limits → ByteWorld → Exit → Type 0
 ExitStays l b x = (x.bytes ≡ lentBytes b x.lent) ⊎ (x.bytes ≡ cleared l (lentBytes b x.lent))
 
 -- of reading and writing fields: where an answer is refused, `kept` stands in the buffer
-kept_out : (a c : Bool) (done kept : List ℕ) (j k : ℕ) → ((cond a (cond c (wrote 0 done) (wrote j kept)) (wrote k kept)).number ≡ 0 → ⊥)
+kept-out : (a c : Bool) (done kept : List ℕ) (j k : ℕ) → ((cond a (cond c (wrote 0 done) (wrote j kept)) (wrote k kept)).number ≡ 0 → ⊥)
     → (cond a (cond c (wrote 0 done) (wrote j kept)) (wrote k kept)).out ≡ kept
-kept_out true true done kept j k n = absurd (n refl)
-kept_out true false done kept j k n = refl
-kept_out false c done kept j k n = refl
+kept-out true true done kept j k n = absurd (n refl)
+kept-out true false done kept j k n = refl
+kept-out false c done kept j k n = refl
 
 module _ {A : Type 0} (f : Format A) where
-  read_kept : (bs fs : List ℕ) → ((readCall f bs fs).number ≡ 0 → ⊥) → (readCall f bs fs).out ≡ fs
-  read_kept bs fs = kept_out (eqb (length fs) f.fields) (eqb (readBytes f bs).number 0) (f.numbers (readBytes f bs).contents) fs _ _
+  read-kept : (bs fs : List ℕ) → ((readCall f bs fs).number ≡ 0 → ⊥) → (readCall f bs fs).out ≡ fs
+  read-kept bs fs = kept-out (eqb (length fs) f.fields) (eqb (readBytes f bs).number 0) (f.numbers (readBytes f bs).contents) fs _ _
 
-  write_kept : (fs kept bs : List ℕ) → ((writeCall f fs kept bs).number ≡ 0 → ⊥) → (writeCall f fs kept bs).out ≡ kept
-  write_kept fs kept bs =
-      kept_out (eqb (length fs) f.fields && eqb (length bs) f.size) (eqb (fromNumbers f fs).number 0) (to_bytes f (fromNumbers f fs).contents) kept _ _
+  write-kept : (fs kept bs : List ℕ) → ((writeCall f fs kept bs).number ≡ 0 → ⊥) → (writeCall f fs kept bs).out ≡ kept
+  write-kept fs kept bs =
+      kept-out (eqb (length fs) f.fields && eqb (length bs) f.size) (eqb (fromNumbers f fs).number 0) (toBytes f (fromNumbers f fs).contents) kept _ _
 
 module _ (l : Limits) (b : ByteWorld) where
   -- of the calls of a unit
@@ -55,16 +55,16 @@ module _ (l : Limits) (b : ByteWorld) where
       let same = law.refused n in
       (inl (ap (λ (r : CallAnswer). r.log) same), (inl (ap (λ (r : CallAnswer). r.image) same), (inr (ap (λ (r : CallAnswer). r.out) same), tt)))
 
-  call_stays : (c : Call) → ((runCall l b c).number ≡ 0 → ⊥) → Each (ExitStays l b) (runCall l b c).exits
+  call-stays : (c : Call) → ((runCall l b c).number ≡ 0 → ⊥) → Each (ExitStays l b) (runCall l b c).exits
   unfolding runCall readLogCall readMessageCall writeLogCall writeMessageCall
-  call_stays (starts engine n unit entry log image) h = unit-stays _ log image (other []) _ (start-refusing l engine n unit entry _ _) h
-  call_stays (keysOn log image) h = unit-stays _ log image (other []) _ (key-on-refusing l _ _) h
-  call_stays (proposes log image mileage out) h = unit-stays _ log image out _ (propose-refusing l _ _ mileage _) h
-  call_stays (delivers log image message out) h = unit-stays _ log image out _ (deliver-refusing l _ _ _ _) h
-  call_stays (readsLog bytes fields) h = (inl (read_kept (logFormat l) (lentBytes b bytes) fields h), tt)
-  call_stays (readsMessage bytes fields) h = (inl (read_kept (messageFormat l) (lentBytes b bytes) fields h), tt)
-  call_stays (writesLog fields bytes) h = (inl (write_kept (logFormat l) fields (lentBytes b bytes) (lentBytes b bytes) h), tt)
-  call_stays (writesMessage fields bytes) h = (inr (write_kept (messageFormat l) fields (cleared l (lentBytes b bytes)) (lentBytes b bytes) h), tt)
+  call-stays (starts engine n unit entry log image) h = unit-stays _ log image (other []) _ (start-refusing l engine n unit entry _ _) h
+  call-stays (keysOn log image) h = unit-stays _ log image (other []) _ (key-on-refusing l _ _) h
+  call-stays (proposes log image mileage out) h = unit-stays _ log image out _ (propose-refusing l _ _ mileage _) h
+  call-stays (delivers log image message out) h = unit-stays _ log image out _ (deliver-refusing l _ _ _ _) h
+  call-stays (readsLog bytes fields) h = (inl (read-kept (logFormat l) (lentBytes b bytes) fields h), tt)
+  call-stays (readsMessage bytes fields) h = (inl (read-kept (messageFormat l) (lentBytes b bytes) fields h), tt)
+  call-stays (writesLog fields bytes) h = (inl (write-kept (logFormat l) fields (lentBytes b bytes) (lentBytes b bytes) h), tt)
+  call-stays (writesMessage fields bytes) h = (inr (write-kept (messageFormat l) fields (cleared l (lentBytes b bytes)) (lentBytes b bytes) h), tt)
 
 -- a buffer of another length than a message's is not cleared
 cleared-other : (l : Limits) (bs : List ℕ) → (length bs ≡ messageSize l → ⊥) → cleared l bs ≡ bs
@@ -100,12 +100,12 @@ module _ (l : Limits) (sane : Sane l) (n : ℕ) (w : ContentsWorld) (valid : Val
     stays-kept (other cs) bs e = tt
 
     encodes-leave : (lent : Lent) (bs : List ℕ) → LentStays l n w lent bs → Encodes l n (leave b lent bs) w
-    encodes-leave (lentLog u) bs k = encodes_same l n b w enc u _ (λ h. rw (k h, enc.units u h) (go (w.units u).power))
+    encodes-leave (lentLog u) bs k = encodes-same l n b w enc u _ (λ h. rw (k h, enc.units u h) (go (w.units u).power))
       where
         go : (p : Power) → record { log = logBytes l (unitLog (w.units u)); image = (unitBytesAt l p (w.units u)).image } ≡ unitBytesAt l p (w.units u)
         go Up = refl
         go Down = refl
-    encodes-leave (lentImage u) bs k = encodes_same l n b w enc u _ (λ h. rw (enc.units u h) (go (w.units u).power (k h)))
+    encodes-leave (lentImage u) bs k = encodes-same l n b w enc u _ (λ h. rw (enc.units u h) (go (w.units u).power (k h)))
       where
         go : (p : Power) → (p ≡ Up → bs ≡ imageBytes l (unitImage (w.units u)))
             → record { log = (unitBytesAt l p (w.units u)).log; image = imageLeft (unitBytesAt l p (w.units u)).image bs } ≡ unitBytesAt l p (w.units u)
@@ -119,8 +119,8 @@ module _ (l : Limits) (sane : Sane l) (n : ℕ) (w : ContentsWorld) (valid : Val
   encodes-all b enc (x ∷ xs) k = encodes-all (leave b x.lent x.bytes) (encodes-leave b enc x.lent x.bytes k.0) xs k.1
 
   -- the event of a refused call
-  pub on_call : (b : ByteWorld) → Encodes l n b w → (c : Call) → ((runCall l b c).number ≡ 0 → ⊥)
+  pub on-call : (b : ByteWorld) → Encodes l n b w → (c : Call) → ((runCall l b c).number ≡ 0 → ⊥)
       → Encodes l n (leaveAll b (runCall l b c).exits) w
-  on_call b enc c h =
+  on-call b enc c h =
       encodes-all b enc (runCall l b c).exits
-      (each_map (λ x s. stays-kept b enc x.lent x.bytes s) (runCall l b c).exits (call_stays l b c h))
+      (each-map (λ x s. stays-kept b enc x.lent x.bytes s) (runCall l b c).exits (call-stays l b c h))

@@ -16,20 +16,20 @@ use Rattle.formats.specs.Codes.{letterOf}
 use Rattle.formats.specs.Formats.{ReadAnswer, reading}
 use Rattle.formats.specs.declared.EngineRead.TheVariants.{Is}
 use Rattle.formats.specs.Images.{readImage, imageBytes}
-use Rattle.formats.specs.Logs.{read_log}
+use Rattle.formats.specs.Logs.{readLog}
 use Rattle.formats.proofs.Letters.{engine-letter}
 use Rattle.consensus.specs.Step.{fresh}
 use Rattle.consensus.specs.Units.{unitLog, unitImage, atLog}
 use Rattle.consensus.specs.declared.Power.{Power}
 use Rattle.consensus.specs.declared.Power.TheVariants.{Down, Up}
 use Rattle.calls.proofs.Encoded.{Started, start-accepted, read-log, read-image, read-message}
-use Rattle.agreement.specs.Bytes.{UnitBytes, ByteWorld, up, Event, start_of, begun, step, LawfulEvent, Lawful}
+use Rattle.agreement.specs.Bytes.{UnitBytes, ByteWorld, up, Event, startOf, begun, step, LawfulEvent, Lawful}
 use Rattle.agreement.specs.Contents as C
 use Rattle.agreement.specs.Demand3.{view, Demand3}
 use Rattle.agreement.specs.Encoded.{unitBytesAt, unitBytes, sentBytes, Encodes}
 use Rattle.agreement.specs.Worlds.{Setup, settingsOf, Decision, run, Given, Locked, Seconded, Reported, Agreed}
 use Rattle.agreement.proofs.Encoding.{Valid, Follows}
-use Rattle.agreement.proofs.Follows.{step_follows}
+use Rattle.agreement.proofs.Follows.{step-follows}
 use Rattle.agreement.proofs.History.{Inv, Later, now, and-later, step-later, step-inv, begun-inv, well-formed-unit, from-unit, decided-given}
 use Rattle.agreement.proofs.History.{step-proposed, run-append, run-snoc, locked-later, seconds-sent}
 use Rattle.agreement.proofs.Invariant.{agreement}
@@ -55,7 +55,7 @@ module _ (l : Limits) (sane : Sane l) (c : Setup) where
     later : Later i.contents end.contents
 
   step-reached : (b : ByteWorld) (e : Event) (i : BytesInv l c b) → LawfulEvent l b e → Reached b (step l c.n b e) i
-  step-reached b e i h = go (step_follows l sane c.n b i.contents i.encodes (valid i.contents i.inv) e h)
+  step-reached b e i h = go (step-follows l sane c.n b i.contents i.encodes (valid i.contents i.inv) e h)
     where
       go : Follows l c.n (step l c.n b e) i.contents → Reached b (step l c.n b e) i
       go (inl enc) = record { end = record { contents = i.contents; encodes = enc; inv = i.inv }; later = now i.contents }
@@ -77,19 +77,19 @@ module _ (l : Limits) (sane : Sane l) (c : Setup) where
   pub bytes-step : (b : ByteWorld) (e : Event) → BytesInv l c b → LawfulEvent l b e → BytesInv l c (step l c.n b e)
   bytes-step b e i h = (step-reached b e i h).end
 
-  pub bytes_run : (b : ByteWorld) (es : List Event) → BytesInv l c b → Lawful l c.n b es → BytesInv l c (run (step l c.n) b es)
-  bytes_run b es i h = (run-reached b es i h).end
+  pub bytes-run : (b : ByteWorld) (es : List Event) → BytesInv l c b → Lawful l c.n b es → BytesInv l c (run (step l c.n) b es)
+  bytes-run b es i h = (run-reached b es i h).end
 
   -- a fresh start, whatever the buffers held before
-  module _ (logs images : ℕ → List ℕ) (started : (u : ℕ) → u < c.n → (start_of l c logs images u).number ≡ 0) where
-    start-at : (u : ℕ) → u < c.n → Started l (letterOf c.engine) c.n u c.entry (start_of l c logs images u)
+  module _ (logs images : ℕ → List ℕ) (started : (u : ℕ) → u < c.n → (startOf l c logs images u).number ≡ 0) where
+    start-at : (u : ℕ) → u < c.n → Started l (letterOf c.engine) c.n u c.entry (startOf l c logs images u)
     start-at u h = start-accepted l sane (letterOf c.engine) c.n u c.entry (logs u) (images u) (started u h)
 
     pub encodes-begun : Encodes l c.n (begun l c logs images) (C.begun c)
     unfolding begun C.begun fresh atLog
     encodes-begun = record { units = same; sent = refl; proposed = refl; decided = refl }
       where
-        same : (u : ℕ) → u < c.n → up (start_of l c logs images u).log (start_of l c logs images u).image ≡ unitBytes l (fresh (settingsOf c u))
+        same : (u : ℕ) → u < c.n → up (startOf l c logs images u).log (startOf l c logs images u).image ≡ unitBytes l (fresh (settingsOf c u))
         same u h =
             let s = start-at u h in
             let g : c.engine ≡ s.known = is-inj c.engine s.known (sym (engine-letter c.engine) ∙ s.letter) in
@@ -113,8 +113,8 @@ module _ (l : Limits) (sane : Sane l) (c : Setup) where
     same-given v g = record { by = g.by; there = subst (Memᴰ _) (sym i.encodes.proposed) g.there }
 
     module _ (u : ℕ) (h : u < c.n) where
-      reads-log : read_log l (b.units u).log ≡ reading 0 (unitLog (w.units u))
-      reads-log = ap (read_log l) (has-log l sane c.n w ok b i.encodes u h) ∙ (read-log l sane (unitLog (w.units u)) (ok.units u h).log).0
+      reads-log : readLog l (b.units u).log ≡ reading 0 (unitLog (w.units u))
+      reads-log = ap (readLog l) (has-log l sane c.n w ok b i.encodes u h) ∙ (read-log l sane (unitLog (w.units u)) (ok.units u h).log).0
 
       reads-image : (bs : List ℕ) → (b.units u).image ≡ some bs → readImage l bs ≡ reading 0 (unitImage (w.units u))
       reads-image bs e = go (w.units u).power (ap (λ (x : UnitBytes). x.image) (sym (i.encodes.units u h)) ∙ e)
@@ -136,8 +136,8 @@ module _ (l : Limits) (sane : Sane l) (c : Setup) where
     sent-copy : (m : Message) → Memᴰ m w.sent → Memᴰ (sentBytes l m) b.sent
     sent-copy m h = subst (Memᴰ (sentBytes l m)) (sym i.encodes.sent) (mathlib.Core.List.Memᴰ.map (sentBytes l) h)
 
-    same_second : (d : Decision) (u : ℕ) → Seconded C.view w d u → Seconded (view l) b d u
-    same_second d u a =
+    same-second : (d : Decision) (u : ℕ) → Seconded C.view w d u → Seconded (view l) b d u
+    same-second d u a =
         let m = a.message in
         let there : Memᴰ m w.sent = subst (λ z. Memᴰ z w.sent) a.reads a.sent in
         record {
@@ -153,7 +153,7 @@ module _ (l : Limits) (sane : Sane l) (c : Setup) where
 
     -- what is decided after an event was given before it
     given-before : (e : Event) → LawfulEvent l b e → (d : Decision) → Memᴰ d (step l c.n b e).decided → Given d.mileage b
-    given-before e h d m = same-given d.mileage (go (step_follows l sane c.n b w i.encodes ok e h))
+    given-before e h d m = same-given d.mileage (go (step-follows l sane c.n b w i.encodes ok e h))
       where
         go : Follows l c.n (step l c.n b e) w → Given d.mileage w
         go (inl enc) = decided-given l c w i.inv d (subst (Memᴰ d) enc.decided m)
@@ -176,7 +176,7 @@ module _ (l : Limits) (sane : Sane l) (c : Setup) where
         images = λ xs ys split u h s r d m. subst (Locked d) (image-state (to xs) (at xs ys split) u h s r) (ever xs ys split u h d m).1;
         logs-read = λ u h. ((end.contents.units u).logged, rw (reads-log last end u h) (refl, refl));
         images-read = λ u h r. ((end.contents.units u).current, (r.0, (r.1, rw (reads-image last end u h r.0 r.1) (refl, refl))));
-        seconded = λ d m. many-map (same_second last end d) (seconds-sent l c end.contents end.inv d (same-decision last end d m));
+        seconded = λ d m. many-map (same-second last end d) (seconds-sent l c end.contents end.inv d (same-decision last end d m));
       }
     where
       to : List Event → ByteWorld
@@ -186,13 +186,13 @@ module _ (l : Limits) (sane : Sane l) (c : Setup) where
       last = run (step l c.n) b es
 
       end : BytesInv l c last
-      end = bytes_run b es i lawful
+      end = bytes-run b es i lawful
 
       parts : (xs ys : List Event) → es ≡ xs ++ ys → Lawful l c.n b xs × Lawful l c.n (to xs) ys
       parts xs ys split = lawful-parts b xs ys (subst (Lawful l c.n b) split lawful)
 
       at : (xs ys : List Event) → es ≡ xs ++ ys → BytesInv l c (to xs)
-      at xs ys split = bytes_run b xs i (parts xs ys split).0
+      at xs ys split = bytes-run b xs i (parts xs ys split).0
 
       before : (xs ys : List Event) (e : Event) → es ≡ xs ++ (e ∷ ys) → (d : Decision) → Reported (step l c.n) b (xs ++ (e ∷ [])) d
           → Given d.mileage (to xs)

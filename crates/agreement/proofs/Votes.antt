@@ -30,13 +30,13 @@ of F Blank f = tt
 of F Split f = tt
 of F (Mileage v) f = f v refl
 
-pub of_map : {F G : ℕ → Type 0} → ((v : ℕ) → F v → G v) → (e : Estimate) → Of F e → Of G e
-of_map f Blank h = tt
-of_map f Split h = tt
-of_map f (Mileage v) h = f v h
+pub of-map : {F G : ℕ → Type 0} → ((v : ℕ) → F v → G v) → (e : Estimate) → Of F e → Of G e
+of-map f Blank h = tt
+of-map f Split h = tt
+of-map f (Mileage v) h = f v h
 
-pub holds_not : (v : ℕ) (e : Estimate) → hasValue v e ≡ false → e ≡ Mileage v → ⊥
-holds_not v e h p = never (sym h ∙ rw p (eq-eqb v v refl))
+pub holds-not : (v : ℕ) (e : Estimate) → hasValue v e ≡ false → e ≡ Mileage v → ⊥
+holds-not v e h p = never (sym h ∙ rw p (eq-eqb v v refl))
 
 -- ---- so many units each with a fact
 
@@ -138,7 +138,7 @@ module _ (c : Setup) (X : Message → Type 0) (unique : Unique X) where
       go false e =
           let o = meet (omega arith) a (safe r v h e) in
           let x = o.1.1 in
-          absurd (holds_not v x.estimate x.differs (one-vote Second refl o.0 r x.estimate (Mileage v) x.vote o.1.0))
+          absurd (holds-not v x.estimate x.differs (one-vote Second refl o.0 r x.estimate (Mileage v) x.vote o.1.0))
 
 -- ---- more messages sent, more mileages proposed
 
@@ -154,5 +154,5 @@ module _ (c : Setup) {X Y : Message → Type 0} (up : (m : Message) → X m → 
     pub sure-up : (r : ℕ) (p : Estimate) → Sure c X A r p → Sure c Y C r p
     sure-up r p s = (
       λ r₀ v h n. many-map (λ u o. record { estimate = o.estimate; vote = vote-up o.vote; differs = o.differs }) (s.0 r₀ v h n),
-      of_map more p s.1,
+      of-map more p s.1,
     )

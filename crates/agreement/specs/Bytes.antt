@@ -51,12 +51,12 @@ pub data Event : Type 0 where
   call : Call → Event
 
 -- starting unit u in the buffers given
-abbrev pub start_of : Limits → Setup → (ℕ → List ℕ) → (ℕ → List ℕ) → ℕ → CallAnswer
-start_of l c logs images u = startCall l (letterOf c.engine) c.n u c.entry (logs u) (images u)
+abbrev pub startOf : Limits → Setup → (ℕ → List ℕ) → (ℕ → List ℕ) → ℕ → CallAnswer
+startOf l c logs images u = startCall l (letterOf c.engine) c.n u c.entry (logs u) (images u)
 
 -- at its start each unit has been started once, whatever its buffers held before; all are up and nothing is sent
 unfoldable pub begun : Limits → Setup → (ℕ → List ℕ) → (ℕ → List ℕ) → ByteWorld
-begun l c logs images = record { units = λ u. up (start_of l c logs images u).log (start_of l c logs images u).image; sent = []; proposed = []; decided = [] }
+begun l c logs images = record { units = λ u. up (startOf l c logs images u).log (startOf l c logs images u).image; sent = []; proposed = []; decided = [] }
 
 -- ---- proposal, delivery, cut delivery, key-off, key-on
 

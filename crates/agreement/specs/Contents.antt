@@ -3,7 +3,7 @@ use Rattle.std.specs.Prelude.{ℕ, ◌≡◌, Bool, true, cond, List, [], eqb, l
 use Rattle.std.proofs.Math.Option.{Option, none, some}
 use Rattle.std.proofs.Math.ListN.{get_elem?}
 use Rattle.tally.specs.Limits.{Limits}
-use Rattle.tally.specs.Refusal.{number_of}
+use Rattle.tally.specs.Refusal.{numberOf}
 use Rattle.contents.specs.declared.Kind.{Kind}
 use Rattle.contents.specs.declared.Kind.TheVariants.{Empty, First, Check, Second, Skip}
 use Rattle.contents.specs.declared.Message.{Message}
@@ -42,7 +42,7 @@ unlessEmpty Second m = some m
 unlessEmpty Skip m = some m
 
 abbrev pub isAccepted : Answer → Bool
-isAccepted a = eqb (number_of a.refusal) 0
+isAccepted a = eqb (numberOf a.refusal) 0
 
 -- the unit, message and decision that a step of unit u in round r answered; a refusal's answer changes nothing
 unfoldable pub after : ContentsWorld → ℕ → ℕ → Answer → ContentsWorld

@@ -2,7 +2,7 @@
 use Rattle.std.specs.Prelude.{ℕ, ◌<◌, ◌≡◌, List, map}
 use Rattle.tally.specs.Limits.{Limits}
 use Rattle.contents.specs.declared.Message.{Message}
-use Rattle.formats.specs.Formats.{to_bytes}
+use Rattle.formats.specs.Formats.{toBytes}
 use Rattle.formats.specs.Images.{imageBytes}
 use Rattle.formats.specs.Messages.{messageFormat}
 use Rattle.consensus.specs.Units.{unitLog, unitImage}
@@ -23,7 +23,7 @@ unitBytes l x = unitBytesAt l x.power x
 
 -- the bytes of a message that is not empty
 abbrev pub sentBytes : Limits → Message → List ℕ
-sentBytes l m = to_bytes (messageFormat l) m
+sentBytes l m = toBytes (messageFormat l) m
 
 -- the world b has the bytes of the world w
 pub record Encodes (l : Limits) (n : ℕ) (b : ByteWorld) (w : ContentsWorld) : Type 0 where

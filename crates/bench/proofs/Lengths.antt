@@ -25,7 +25,7 @@ use Rattle.bench_text.specs.Text.{decimal, shownText, fieldText, fieldsText, hea
 use Rattle.bench_text.specs.declared.ListingLine.{ListingLine}
 use Rattle.bench_text.specs.declared.Shown.{Shown}
 use Rattle.bench_text.proofs.Digits.{digits-most, digits-short}
-use Rattle.bench.specs.Listing.{line_of, lineWith, linesText, headerLine, malformedLine, malformedText}
+use Rattle.bench.specs.Listing.{lineOf, lineWith, linesText, headerLine, malformedLine, malformedText}
 use Rattle.bench.specs.InnerLines.{eventsFrom, restText}
 use Rattle.bench.specs.Widths.{indexWidth, keptWidth, headerWidth, malformedWidth, endWidth, maxListing}
 use Rattle.bench.proofs.Rest.{malformed-line}
@@ -101,18 +101,18 @@ module _ (i : ℕ) (small : i < 10 ^ indexWidth) where
         dash-length,
       )
 
-  any-shown : (e : ScriptEvent) (r : LineAnswer) → length (lineText (line_of i e r)) ≤ 4 * malformedWidth
-  unfolding line_of lineWith
+  any-shown : (e : ScriptEvent) (r : LineAnswer) → length (lineText (lineOf i e r)) ≤ 4 * malformedWidth
+  unfolding lineOf lineWith
   any-shown e r =
       omega (
         arith,
-        shown-length (line_of i e r),
+        shown-length (lineOf i e r),
         number-most 4 i small,
         letter-length (eventLetter e),
-        shown-short (line_of i e r).unit,
-        shown-short (Shown.Number (line_of i e r).number),
-        shown-short (line_of i e r).sent,
-        shown-short (line_of i e r).decision,
+        shown-short (lineOf i e r).unit,
+        shown-short (Shown.Number (lineOf i e r).number),
+        shown-short (lineOf i e r).sent,
+        shown-short (lineOf i e r).decision,
       )
 
 -- ---- the lines of a script
@@ -120,13 +120,13 @@ module _ (i : ℕ) (small : i < 10 ^ indexWidth) where
 module _ (l : Limits) (n : ℕ) where
   -- a line has no more than a malformed line's bytes for each of its own
   line-length : (b : Bench) (i : ℕ) (p : List ℕ) → i < 10 ^ indexWidth
-      → length (lineText (line_of i (eventOf n p) (answer l b (eventOf n p)))) ≤ malformedWidth * suc (length p)
+      → length (lineText (lineOf i (eventOf n p) (answer l b (eventOf n p)))) ≤ malformedWidth * suc (length p)
   line-length b i p small = go (leb 3 (length p)) refl
     where
-      none : eventOf n p ≡ ScriptEvent.Malformed → length (lineText (line_of i (eventOf n p) (answer l b (eventOf n p)))) ≤ malformedWidth
+      none : eventOf n p ≡ ScriptEvent.Malformed → length (lineText (lineOf i (eventOf n p) (answer l b (eventOf n p)))) ≤ malformedWidth
       none e = rw (e, malformed-line l b i) (malformed-shown i small)
 
-      go : (t : Bool) → leb 3 (length p) ≡ t → length (lineText (line_of i (eventOf n p) (answer l b (eventOf n p)))) ≤ malformedWidth * suc (length p)
+      go : (t : Bool) → leb 3 (length p) ≡ t → length (lineText (lineOf i (eventOf n p) (answer l b (eventOf n p)))) ≤ malformedWidth * suc (length p)
       go true h = omega (arith, leb-true 3 (length p) h, any-shown i small (eventOf n p) (answer l b (eventOf n p)))
       go false h = omega (arith, none (short-line n p (leb-false 3 (length p) h)))
 

@@ -10,7 +10,7 @@ use lib.ListN.{length, take, drop, length-append}
 use lib.Seq.{sets-eq}
 use borrow.Author.Tests.{leb-true, leb-false, le-leb, lt-leb, ltb-true, ltb-false, le-ltb}
 use Rattle.tally.specs.Limits.{Limits, scriptSize}
-use Rattle.tally.specs.Refusal.{number_of}
+use Rattle.tally.specs.Refusal.{numberOf}
 use Rattle.tally.specs.declared.Refusal.{Refusal}
 use Rattle.script.specs.Parts.{newline, parted}
 use Rattle.script.specs.InnerParts.{before}
@@ -53,8 +53,8 @@ module _ (l : Limits) (s : List ℕ) where
     listing-short = rw (le-leb (length s) scriptSize short)
 
     module _ (k : ℕ) (stop : k ≡ before newline s) where
-      pub listing_none : length s ≤ k → listing l s ≡ malformedText
-      listing_none h = listing-short ∙ ap (scriptText l) (parse-none s k stop h)
+      pub listing-none : length s ≤ k → listing l s ≡ malformedText
+      listing-none h = listing-short ∙ ap (scriptText l) (parse-none s k stop h)
 
       module _ (inside : k < length s) where
         read : (r : HeaderRead) → r ≡ headerOf (take k s) → listing l s ≡ scriptText l (withHeader r (parted newline (drop (k + 1) s)))
@@ -82,7 +82,7 @@ listing-length l s = go (leb (length s) scriptSize) refl
 
     within : length s ≤ scriptSize → (t : Bool) → ltb (before newline s) (length s) ≡ t → length (listing l s) ≤ maxListing
     within short true e = read short (ltb-true (before newline s) (length s) e) (headerOf (take (before newline s) s)) refl
-    within short false e = rw (listing_none l s short (before newline s) refl (ltb-false (before newline s) (length s) e)) malformed-length
+    within short false e = rw (listing-none l s short (before newline s) refl (ltb-false (before newline s) (length s) e)) malformed-length
 
     go : (t : Bool) → leb (length s) scriptSize ≡ t → length (listing l s) ≤ maxListing
     go true e = within (leb-true (length s) scriptSize e) (ltb (before newline s) (length s)) refl
@@ -93,15 +93,15 @@ pub put-over : (text xs ys : List ℕ) (r : ℕ) → length text ≤ length xs �
 put-over text xs ys r room p = (omega (arith, p.ends), p.bytes ∙ (rw zero-add at (sets-eq text xs 0 (omega arith))))
 
 -- what the call prints lies within its buffer
-call_fits : (l : Limits) (s out : List ℕ) → (listingCall l s out).written ≤ length (listingCall l s out).out
+call-fits : (l : Limits) (s out : List ℕ) → (listingCall l s out).written ≤ length (listingCall l s out).out
 unfolding listingCall
-call_fits l s out = go (ltb (length out) maxListing)
+call-fits l s out = go (ltb (length out) maxListing)
   where
     short : PrintAnswer
-    short = printed (number_of Refusal.Length) 0 out
+    short = printed (numberOf Refusal.Length) 0 out
 
     whole : PrintAnswer
-    whole = printed (number_of Refusal.None) (length (listing l s)) (over (listing l s) out)
+    whole = printed (numberOf Refusal.None) (length (listing l s)) (over (listing l s) out)
 
     go : (t : Bool) → (cond t short whole).written ≤ length (cond t short whole).out
     go true = omega arith
@@ -109,10 +109,10 @@ call_fits l s out = go (ltb (length out) maxListing)
 
 pub printed-fits : (l : Limits) (s xs ys : List ℕ) (k n : ℕ) → printed k n ys ≡ listingCall l s xs → n ≤ length ys
 printed-fits l s xs ys k n e =
-    rw (ap (λ (r : PrintAnswer). r.written) e, ap (λ (r : PrintAnswer). r.out) e) (call_fits l s xs)
+    rw (ap (λ (r : PrintAnswer). r.written) e, ap (λ (r : PrintAnswer). r.out) e) (call-fits l s xs)
 
 -- with room for any listing it is accepted
 pub printed-accepted : (l : Limits) (s xs ys : List ℕ) (k n : ℕ) → maxListing ≤ length xs → printed k n ys ≡ listingCall l s xs
-    → k ≡ number_of Refusal.None
+    → k ≡ numberOf Refusal.None
 unfolding listingCall
 printed-accepted l s xs ys k n room e = ap (λ (r : PrintAnswer). r.number) (rw (le-ltb (length xs) maxListing room) at e)

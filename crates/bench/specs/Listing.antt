@@ -1,7 +1,7 @@
 -- The listing of a script: parse, then play over a list of events, then print. Assumes nothing.
 use Rattle.std.specs.Prelude.{ℕ, ◌+◌, cond, List, [], ◌∷◌, ◌++◌, leb, ltb, length, drop}
 use Rattle.tally.specs.Limits.{Limits, scriptSize}
-use Rattle.tally.specs.Refusal.{number_of}
+use Rattle.tally.specs.Refusal.{numberOf}
 use Rattle.tally.specs.declared.Estimate.{Estimate}
 use Rattle.tally.specs.declared.Refusal.{Refusal}
 use Rattle.formats.specs.Codes.{letterOf}
@@ -37,15 +37,15 @@ decisionShown (Estimate.Mileage v) = Shown.Number v
 
 unfoldable pub lineWith : ℕ → ScriptEvent → Refusal → Sent → Estimate → ListingLine
 lineWith i e k s d =
-    record { index = i; letter = eventLetter e; unit = unitShown e; number = number_of k; sent = sentShown s; decision = decisionShown d }
+    record { index = i; letter = eventLetter e; unit = unitShown e; number = numberOf k; sent = sentShown s; decision = decisionShown d }
 
-unfoldable pub line_of : ℕ → ScriptEvent → LineAnswer → ListingLine
-line_of i e r = lineWith i e r.refusal r.sent r.decision
+unfoldable pub lineOf : ℕ → ScriptEvent → LineAnswer → ListingLine
+lineOf i e r = lineWith i e r.refusal r.sent r.decision
 
 -- the lines of what was played, the first of them with index i
 unfoldable pub linesText : ℕ → List Played → List ℕ
 linesText i [] = []
-linesText i (p ∷ ps) = lineText (line_of i p.event p.answer) ++ linesText (i + 1) ps
+linesText i (p ∷ ps) = lineText (lineOf i p.event p.answer) ++ linesText (i + 1) ps
 
 -- ---- the listing
 
@@ -60,7 +60,7 @@ playedText l h es = headerLine h ++ (linesText 1 (play l (start h) es) ++ endTex
 -- `index,?,-,8,-,-`: what a malformed line prints (`malformed-line`)
 unfoldable pub malformedLine : ℕ → ListingLine
 malformedLine i =
-    record { index = i; letter = questionMark; unit = Shown.Dash; number = number_of Refusal.Line; sent = Shown.Dash; decision = Shown.Dash }
+    record { index = i; letter = questionMark; unit = Shown.Dash; number = numberOf Refusal.Line; sent = Shown.Dash; decision = Shown.Dash }
 
 -- a malformed header prints `0,?,-,8,-,-` and `end,0,0`
 unfoldable pub malformedText : List ℕ
@@ -89,5 +89,5 @@ over text out = text ++ drop (length text) out
 
 unfoldable pub listingCall : Limits → List ℕ → List ℕ → PrintAnswer
 listingCall l s out =
-    cond (ltb (length out) maxListing) (printed (number_of Refusal.Length) 0 out)
-    (printed (number_of Refusal.None) (length (listing l s)) (over (listing l s) out))
+    cond (ltb (length out) maxListing) (printed (numberOf Refusal.Length) 0 out)
+    (printed (numberOf Refusal.None) (length (listing l s)) (over (listing l s) out))

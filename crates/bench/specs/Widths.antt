@@ -5,21 +5,21 @@ use Rattle.script.specs.Numbers.{maxDigits}
 use Rattle.bench_text.specs.Text.{digits, endPrefix}
 
 -- the most digits of a number up to the one given
-abbrev pub width_of : ℕ → ℕ
-width_of most = length (digits maxDigits most)
+abbrev pub widthOf : ℕ → ℕ
+widthOf most = length (digits maxDigits most)
 
 -- of n, of an entry, of an index and of the messages kept
 abbrev pub unitsWidth : ℕ
-unitsWidth = width_of maxUnits
+unitsWidth = widthOf maxUnits
 
 abbrev pub entryWidth : ℕ
-entryWidth = width_of maxEntry
+entryWidth = widthOf maxEntry
 
 abbrev pub indexWidth : ℕ
-indexWidth = width_of scriptSize
+indexWidth = widthOf scriptSize
 
 abbrev pub keptWidth : ℕ
-keptWidth = width_of places
+keptWidth = widthOf places
 
 -- the letter, n and entry, two commas and byte 10
 abbrev pub headerWidth : ℕ

@@ -1,4 +1,6 @@
 // The bench program's work: from a script's bytes to its listing's.
+#![tactic(auto)]
+
 mod lines;
 mod turns;
 

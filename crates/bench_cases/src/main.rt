@@ -1,4 +1,5 @@
 // Plays the scripts that the arguments name, in their order. What is printed is held to the file `stdout`.
+#![tactic(auto)]
 
 // The script of argument k, with its name before the listing.
 fn play_named(k: usize) {

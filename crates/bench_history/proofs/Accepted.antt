@@ -7,7 +7,7 @@ use native.Mathlib.Omega.{arith}
 use lib.ListN.{get_elem?}
 use borrow.Author.Tests.{eq-eqb, lt-ltb}
 use Rattle.tally.specs.Limits.{Limits}
-use Rattle.tally.specs.Refusal.{number_of}
+use Rattle.tally.specs.Refusal.{numberOf}
 use Rattle.tally.specs.declared.Estimate.{Estimate}
 use Rattle.tally.specs.declared.Estimate.TheVariants.{Blank, Split, Mileage}
 use Rattle.consensus.specs.Methods.{propose, deliver, keyOff, keyOn}
@@ -18,10 +18,10 @@ use Rattle.consensus.specs.declared.Unit as U
 use Rattle.agreement.specs.Contents.{ContentsWorld, unlessEmpty, after, afterCut, afterProposal, delivering, apply, step}
 use Rattle.agreement.specs.Contents as C
 use Rattle.agreement.specs.Worlds.{Proposal, Decision, put, change, decision, run}
-use Rattle.agreement.proofs.History.{added, after_is}
+use Rattle.agreement.proofs.History.{added, after-is}
 use Rattle.script.specs.Script.{eventUnit}
 use Rattle.script.specs.declared.ScriptEvent.{ScriptEvent}
-use Rattle.bench_play.specs.Bench.{unit_at, messageAt}
+use Rattle.bench_play.specs.Bench.{unitAt, messageAt}
 use Rattle.bench_play.specs.Claims.{Sized}
 use Rattle.bench_play.specs.Play.{Played, delivery, cutShort, unitAnswer}
 use Rattle.bench_play.specs.declared.Bench.{Bench}
@@ -44,14 +44,14 @@ decided-added ds u r (Mileage v) = map-append withoutRound ds _
 module _ (w : ContentsWorld) (u : ℕ) where
   went-after : (r : ℕ) (a : Answer) → Went w (after w u r a) [] u a
   went-after r a =
-      rw (after_is w u r a)
+      rw (after-is w u r a)
       (record { units = refl; sent = refl; proposed = sym (append-nil w.proposed); decided = decided-added w.decided u r a.decision })
 
   went-proposal : (v : ℕ) (a : Answer) → Accepts a → Went w (afterProposal w u v a) (record { unit = u; mileage = v } ∷ []) u a
   unfolding afterProposal
   went-proposal v a zero =
       let g = went-after 0 a in
-      rw (eq-eqb (number_of a.refusal) 0 zero)
+      rw (eq-eqb (numberOf a.refusal) 0 zero)
       (record {
         units = g.units;
         sent = g.sent;
@@ -73,32 +73,32 @@ module _ (l : Limits) (n : ℕ) (b : Bench) (sized : Sized b) (lines : List Play
     unfolding apply delivering
     went-delivery k zero =
         let d = delivered l b u k zero in
-        rw (sent-at k d.sent, shows.units u below, d.same) (went-after w u (messageAt b k).round (deliver l (unit_at b u) (messageAt b k)))
+        rw (sent-at k d.sent, shows.units u below, d.same) (went-after w u (messageAt b k).round (deliver l (unitAt b u) (messageAt b k)))
 
     went-cut : (k : ℕ) → Accepts (cutShort (delivery l b u k)) → Went w (apply l w (C.cut u k)) [] u (cutShort (delivery l b u k))
     unfolding apply delivering afterCut
     went-cut k zero =
         let c = cut-accepted (delivery l b u k) zero in
         let d = delivered l b u k c.0 in
-        let a = deliver l (unit_at b u) (messageAt b k) in
+        let a = deliver l (unitAt b u) (messageAt b k) in
         let off : cutShort (delivery l b u k) ≡ keyOff a.unit = c.1 ∙ ap (λ (x : Answer). keyOff x.unit) d.same in
         let q : keyOff a.unit ≡ quiet (downUnit (unitLog a.unit)) = off-accepted a.unit (rw off at zero) in
         rw (
           sent-at k d.sent,
           shows.units u below,
-          eq-eqb (number_of a.refusal) 0 (rw d.same at c.0),
+          eq-eqb (numberOf a.refusal) 0 (rw d.same at c.0),
           off,
           q,
         )
         (went-quiet w u (downUnit (unitLog a.unit)))
 
-    went-off : Accepts (keyOff (unit_at b u)) → Went w (apply l w (C.off u)) [] u (keyOff (unit_at b u))
+    went-off : Accepts (keyOff (unitAt b u)) → Went w (apply l w (C.off u)) [] u (keyOff (unitAt b u))
     unfolding apply
-    went-off zero = rw (shows.units u below, off-accepted (unit_at b u) zero) (went-quiet w u _)
+    went-off zero = rw (shows.units u below, off-accepted (unitAt b u) zero) (went-quiet w u _)
 
-    went_on : Accepts (keyOn (unit_at b u)) → Went w (apply l w (C.on u)) [] u (keyOn (unit_at b u))
+    went-on : Accepts (keyOn (unitAt b u)) → Went w (apply l w (C.on u)) [] u (keyOn (unitAt b u))
     unfolding apply
-    went_on zero = rw (shows.units u below, (on-accepted (unit_at b u) zero).1) (went-quiet w u _)
+    went-on zero = rw (shows.units u below, (on-accepted (unitAt b u) zero).1) (went-quiet w u _)
 
   -- the event runs as the bench's unit answers
   pub went : (e : ScriptEvent) → eventUnit e < n → Accepts (unitAnswer l b e)
@@ -106,8 +106,8 @@ module _ (l : Limits) (n : ℕ) (b : Bench) (sized : Sized b) (lines : List Play
   unfolding unitAnswer run step apply
   went ScriptEvent.Malformed below zero = absurd (omega (arith, zero))
   went (ScriptEvent.Propose u v) below zero =
-      rw (lt-ltb u n below, shows.units u below) (went-proposal w u v (propose l (unit_at b u) v) zero)
+      rw (lt-ltb u n below, shows.units u below) (went-proposal w u v (propose l (unitAt b u) v) zero)
   went (ScriptEvent.Deliver u k) below zero = rw (lt-ltb u n below) (went-delivery u below k zero)
   went (ScriptEvent.Cut u k) below zero = rw (lt-ltb u n below) (went-cut u below k zero)
   went (ScriptEvent.KeyOff u) below zero = rw (lt-ltb u n below) (went-off u below zero)
-  went (ScriptEvent.KeyOn u) below zero = rw (lt-ltb u n below) (went_on u below zero)
+  went (ScriptEvent.KeyOn u) below zero = rw (lt-ltb u n below) (went-on u below zero)

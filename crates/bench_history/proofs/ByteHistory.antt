@@ -9,7 +9,7 @@ use lib.Dec.{eqb}
 use lib.ListN.{length, get_elem?, length-replicate}
 use borrow.Author.Tests.{eqb-true, eq-eqb, lt-ltb}
 use Rattle.tally.specs.Limits.{Limits, Sane, senders, logSize, imageSize, messageSize}
-use Rattle.tally.specs.Refusal.{number_of}
+use Rattle.tally.specs.Refusal.{numberOf}
 use Rattle.contents.specs.Messages.{messageOk}
 use Rattle.contents.specs.declared.Message.{Message}
 use Rattle.formats.specs.Formats.{ReadAnswer}
@@ -17,7 +17,7 @@ use Rattle.formats.specs.Images.{imageBytes}
 use Rattle.formats.specs.Messages.{emptyBytes}
 use Rattle.formats.proofs.Letters.{engine-letter}
 use Rattle.consensus.specs.Methods.{propose, deliver}
-use Rattle.consensus.specs.Conditions.{first_of}
+use Rattle.consensus.specs.Conditions.{firstOf}
 use Rattle.consensus.specs.Units.{unitLog, unitImage}
 use Rattle.consensus.specs.declared.Power.TheVariants.{Down, Up}
 use Rattle.calls.specs.Calls.{answered, unitLengths, badSettings, logBytes, startCallConditions, startCall, deliverCall}
@@ -27,7 +27,7 @@ use Rattle.agreement.specs.Contents as C
 use Rattle.agreement.specs.Demand3.{view}
 use Rattle.agreement.specs.Encoded.{sentBytes, Encodes}
 use Rattle.agreement.specs.Worlds.{Setup, run, Agreed}
-use Rattle.agreement.proofs.Encoding.{Valid, step-proposal, step-delivery, step_cut, step-off, step-on}
+use Rattle.agreement.proofs.Encoding.{Valid, step-proposal, step-delivery, step-cut, step-off, step-on}
 use Rattle.agreement.proofs.Follows.{sent-at, sent-in}
 use Rattle.agreement.proofs.History.{Inv, run-append, run-inv, begun-inv}
 use Rattle.agreement.proofs.Refused.{has-log}
@@ -35,7 +35,7 @@ use Rattle.agreement.proofs.Theorem.{valid, encodes-begun, demand-3}
 use Rattle.script.specs.Script.{eventUnit, inRanges}
 use Rattle.script.specs.declared.ScriptEvent.{ScriptEvent}
 use Rattle.script.specs.declared.Header.{Header}
-use Rattle.bench_play.specs.Bench.{start, unit_at, messageAt}
+use Rattle.bench_play.specs.Bench.{start, unitAt, messageAt}
 use Rattle.bench_play.specs.Play.{Played, delivery, answer, play, unitAnswer}
 use Rattle.bench_play.specs.declared.Bench.{Bench}
 use Rattle.bench_play.specs.Claims.{Sized}
@@ -96,11 +96,11 @@ module _ (l : Limits) (sane : Sane l) (n : ℕ) (c : B.ByteWorld) (w : C.Content
           rw (lt-ltb u n below, up-image on, kept-bytes, has-log l sane n w ok c enc u below, called, kept-round)
           (step-delivery l sane n c w enc ok u below on (emptyBytes l) m kept-ok k there number)
 
-      byte_cut : Accepts (deliver l (w.units u) m) → AsContents (B.cut u k (emptyBytes l)) (C.cut u k)
+      byte-cut : Accepts (deliver l (w.units u) m) → AsContents (B.cut u k (emptyBytes l)) (C.cut u k)
       unfolding B.step B.delivering
-      byte_cut number =
+      byte-cut number =
           rw (lt-ltb u n below, up-image on, kept-bytes, has-log l sane n w ok c enc u below, called)
-          (step_cut l sane n c w enc ok u below on (emptyBytes l) m kept-ok k there number)
+          (step-cut l sane n c w enc ok u below on (emptyBytes l) m kept-ok k there number)
 
   byte-off : AsContents (B.off u) (C.off u)
   unfolding B.step
@@ -122,7 +122,7 @@ module _ (l : Limits) (sane : Sane l) (n : ℕ) (b : Bench) (sized : Sized b) (l
   byte-event ScriptEvent.Malformed below number = absurd (omega (arith, number))
   byte-event (ScriptEvent.Propose u v) below number =
       let same = shows.units u below in
-      byte-proposal l sane n c w enc ok u below v (rw same (proposal-up l (unit_at b u) v number)) (rw same number)
+      byte-proposal l sane n c w enc ok u below v (rw same (proposal-up l (unitAt b u) v number)) (rw same number)
   byte-event (ScriptEvent.Deliver u k) below number =
       let same = shows.units u below in
       let d = delivered l b u k number in
@@ -132,19 +132,19 @@ module _ (l : Limits) (sane : Sane l) (n : ℕ) (b : Bench) (sized : Sized b) (l
       let same = shows.units u below in
       let a = (cut-accepted (delivery l b u k) number).0 in
       let d = delivered l b u k a in
-      byte_cut l sane n c w enc ok u below k (messageAt b k) (bench-sent l n b sized lines w shows k d.sent) (rw same d.up)
+      byte-cut l sane n c w enc ok u below k (messageAt b k) (bench-sent l n b sized lines w shows k d.sent) (rw same d.up)
       (rw (same, ← d.same) a)
   byte-event (ScriptEvent.KeyOff u) below number = byte-off l sane n c w enc ok u below
   byte-event (ScriptEvent.KeyOn u) below number =
-      byte-on l sane n c w enc ok u below (rw (shows.units u below) (on-accepted (unit_at b u) number).0)
+      byte-on l sane n c w enc ok u below (rw (shows.units u below) (on-accepted (unitAt b u) number).0)
 
   byte-line : (e : ScriptEvent) → eventUnit e < n
       → Encodes l n (run (B.step l n) c (ofAccepted (byteEvent l) (played e (answer l b e))))
       (run (C.step l n) w (ofAccepted contentsEvent (played e (answer l b e))))
   unfolding run
-  byte-line e below = go (eqb (number_of (answer l b e).refusal) 0) refl
+  byte-line e below = go (eqb (numberOf (answer l b e).refusal) 0) refl
     where
-      go : (t : Bool) → eqb (number_of (answer l b e).refusal) 0 ≡ t
+      go : (t : Bool) → eqb (numberOf (answer l b e).refusal) 0 ≡ t
           → Encodes l n (run (B.step l n) c (cond t (byteEvent l e) [])) (run (C.step l n) w (cond t (contentsEvent e) []))
       go true q = byte-event e below (accepts l b e (eqb-true _ _ q))
       go false q = enc
@@ -186,8 +186,8 @@ lawful l n (p ∷ lines) c = go (lineAccepted p.answer) p.event (lawful l n line
     go false e later = later c
 
 module _ (l : Limits) (sane : Sane l) (h : Header) (range : inRanges h.n h.entry ≡ true) where
-  pub started : (u : ℕ) → u < h.n → (B.start_of l (setupOf h) (startLog l) (startImage l) u).number ≡ 0
-  unfolding startCall startCallConditions first_of unitLengths badSettings
+  pub started : (u : ℕ) → u < h.n → (B.startOf l (setupOf h) (startLog l) (startImage l) u).number ≡ 0
+  unfolding startCall startCallConditions firstOf unitLengths badSettings
   started u below =
       rw (
         eq-eqb (length (zeros (logSize l))) (logSize l) (length-replicate (logSize l) 0),

@@ -5,7 +5,7 @@ use mathlib.Core.Bool.{Bool, true, false, cond}
 use mathlib.Core.List.{List, [], ◌∷◌, ◌++◌, map, Memᴰ}
 use borrow.Author.Tests.{eqb-true}
 use Rattle.tally.specs.Limits.{Limits}
-use Rattle.tally.specs.Refusal.{number_of}
+use Rattle.tally.specs.Refusal.{numberOf}
 use Rattle.tally.specs.declared.Estimate.TheVariants.{Mileage}
 use Rattle.agreement.specs.Contents as C
 use Rattle.agreement.specs.Worlds.{Proposal, Decision, run, Given}
@@ -20,9 +20,9 @@ use Rattle.bench_play.specs.declared.Bench.{Bench}
 use Rattle.bench_history.specs.Covered.{ProposedIn}
 use Rattle.bench_history.specs.History.{setupOf, Below, lineAccepted, ofAccepted, contentsEvent, eventProposals, proposals}
 use Rattle.bench_history.specs.History.{ShownDecision, decidedOf, decisions, withoutRound, Shows, contentsAfter}
-use Rattle.bench_history.proofs.Lists.{flat_in, flat-from}
+use Rattle.bench_history.proofs.Lists.{flat-in, flat-from}
 use Rattle.bench_play.proofs.PlayedLines.{played, reached-sized}
-use Rattle.bench_history.proofs.Lines.{below_parts}
+use Rattle.bench_history.proofs.Lines.{below-parts}
 use Rattle.bench_history.proofs.Simulation.{line-shows, units-high, simulated, after-inv}
 
 -- ---- lines and the world
@@ -37,17 +37,17 @@ shown-decided : (n : ℕ) (b : Bench) (lines : List Played) (w : C.ContentsWorld
 unfolding decisions
 shown-decided n b lines w shows p here v e =
     let shown : Memᴰ (record { unit = eventUnit p.event; mileage = v }) (map withoutRound w.decided) =
-    rw shows.decided (flat_in (λ (q : Played). decidedOf (eventUnit q.event) q.answer.decision) lines here (rw e (mathlib.Core.List.Memᴰ.head refl))) in
-    let d = mathlib.Core.List.Memᴰ.of_map withoutRound w.decided shown in
+    rw shows.decided (flat-in (λ (q : Played). decidedOf (eventUnit q.event) q.answer.decision) lines here (rw e (mathlib.Core.List.Memᴰ.head refl))) in
+    let d = mathlib.Core.List.Memᴰ.of-map withoutRound w.decided shown in
     (d.0, (d.1, ap (λ (x : ShownDecision). x.mileage) d.2))
 
 -- a proposal of the world is on an accepted line
 of-proposal : (p : Played) (q : Proposal) → Memᴰ q (ofAccepted eventProposals p)
-    → (p.event ≡ ScriptEvent.Propose q.unit q.mileage) × (number_of p.answer.refusal ≡ 0)
+    → (p.event ≡ ScriptEvent.Propose q.unit q.mileage) × (numberOf p.answer.refusal ≡ 0)
 of-proposal p q = go (lineAccepted p.answer) refl p.event
   where
     go : (t : Bool) → lineAccepted p.answer ≡ t → (e : ScriptEvent) → Memᴰ q (cond t (eventProposals e) [])
-        → (e ≡ ScriptEvent.Propose q.unit q.mileage) × (number_of p.answer.refusal ≡ 0)
+        → (e ≡ ScriptEvent.Propose q.unit q.mileage) × (numberOf p.answer.refusal ≡ 0)
     go true ok (ScriptEvent.Propose u v) h =
         let same = mathlib.Core.List.Memᴰ.eq_of_singleton h in
         (rw same, eqb-true _ _ ok)
@@ -114,5 +114,5 @@ pub decision-proposed : (l : Limits) (h : Header) → inRanges h.n h.entry ≡ t
     → (before after : List ScriptEvent) (e : ScriptEvent) → es ≡ before ++ (e ∷ after) → (v : ℕ)
     → (answer l (benchAfter l (start h) before) e).decision ≡ Mileage v → ProposedIn v (play l (start h) before)
 decision-proposed l h range es below before after e split v decides =
-    let parts = below_parts h.n before e after (subst (Below h.n) split below) in
+    let parts = below-parts h.n before e after (subst (Below h.n) split below) in
     decided-proposed l h range before parts.0 e parts.1 v decides

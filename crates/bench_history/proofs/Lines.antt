@@ -5,7 +5,7 @@ use Rattle.script.specs.Script.{eventUnit}
 use Rattle.script.specs.declared.ScriptEvent.{ScriptEvent}
 use Rattle.bench_history.specs.History.{Below}
 
-pub below_parts : (n : ℕ) (before : List ScriptEvent) (e : ScriptEvent) (after : List ScriptEvent) → Below n (before ++ (e ∷ after))
+pub below-parts : (n : ℕ) (before : List ScriptEvent) (e : ScriptEvent) (after : List ScriptEvent) → Below n (before ++ (e ∷ after))
     → Below n before × (eventUnit e < n)
-below_parts n [] e after h = (tt, h.0)
-below_parts n (x ∷ before) e after h = let r = below_parts n before e after h.1 in ((h.0, r.0), r.1)
+below-parts n [] e after h = (tt, h.0)
+below-parts n (x ∷ before) e after h = let r = below-parts n before e after h.1 in ((h.0, r.0), r.1)

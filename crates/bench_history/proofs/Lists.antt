@@ -23,26 +23,26 @@ past-taken (x ∷ xs) (suc i) zero h = absurd (omega arith)
 past-taken (x ∷ xs) (suc i) (suc k) h = past-taken xs i k (omega arith)
 
 -- what stands at a place is there
-pub at_in : {A : Type 0} (xs : List A) (i : ℕ) (d : A) → i < length xs → Memᴰ (get_or xs i d) xs
-at_in [] i d h = absurd (omega arith)
-at_in (x ∷ xs) zero d h = Memᴰ.head refl
-at_in (x ∷ xs) (suc i) d h = Memᴰ.tail (at_in xs i d (omega arith))
+pub at-in : {A : Type 0} (xs : List A) (i : ℕ) (d : A) → i < length xs → Memᴰ (get_or xs i d) xs
+at-in [] i d h = absurd (omega arith)
+at-in (x ∷ xs) zero d h = Memᴰ.head refl
+at-in (x ∷ xs) (suc i) d h = Memᴰ.tail (at-in xs i d (omega arith))
 
 module _ {A B : Type 0} (f : A → List B) where
-  pub flat_append : (xs ys : List A) → flat_map f (xs ++ ys) ≡ flat_map f xs ++ flat_map f ys
+  pub flat-append : (xs ys : List A) → flat_map f (xs ++ ys) ≡ flat_map f xs ++ flat_map f ys
   unfolding flat_map
-  flat_append [] ys = refl
-  flat_append (x ∷ xs) ys = ap (λ zs. f x ++ zs) (flat_append xs ys) ∙ sym (append_assoc (f x) (flat_map f xs) (flat_map f ys))
+  flat-append [] ys = refl
+  flat-append (x ∷ xs) ys = ap (λ zs. f x ++ zs) (flat-append xs ys) ∙ sym (append_assoc (f x) (flat_map f xs) (flat_map f ys))
 
   pub flat-snoc : (xs : List A) (x : A) → flat_map f (xs ++ (x ∷ [])) ≡ flat_map f xs ++ f x
   unfolding flat_map
-  flat-snoc xs x = flat_append xs (x ∷ []) ∙ ap (λ zs. flat_map f xs ++ zs) (append-nil (f x))
+  flat-snoc xs x = flat-append xs (x ∷ []) ∙ ap (λ zs. flat_map f xs ++ zs) (append-nil (f x))
 
   -- what one element gives is there
-  pub flat_in : {x : A} {y : B} (xs : List A) → Memᴰ x xs → Memᴰ y (f x) → Memᴰ y (flat_map f xs)
+  pub flat-in : {x : A} {y : B} (xs : List A) → Memᴰ x xs → Memᴰ y (f x) → Memᴰ y (flat_map f xs)
   unfolding flat_map
-  flat_in [] h i = absurd (Memᴰ.not-nil h)
-  flat_in {x} {y} (z ∷ xs) h i = go (λ t. flat_in xs t i) (Memᴰ.cases_cons h)
+  flat-in [] h i = absurd (Memᴰ.not-nil h)
+  flat-in {x} {y} (z ∷ xs) h i = go (λ t. flat-in xs t i) (Memᴰ.cases_cons h)
     where
       go : (Memᴰ x xs → Memᴰ y (flat_map f xs)) → (x ≡ z) ⊎ Memᴰ x xs → Memᴰ y (f z ++ flat_map f xs)
       go later (inl e) = Memᴰ.append_left (flat_map f xs) (subst (λ a. Memᴰ y (f a)) e i)

@@ -9,7 +9,7 @@ use lib.ListN.{get_or, set}
 use lib.Seq.{get_or-set_same, get_or-set_other}
 use borrow.Author.Tests.{eqb-true, eqb-false}
 use Rattle.tally.specs.Limits.{Limits, places, senders}
-use Rattle.tally.specs.Refusal.{number_of}
+use Rattle.tally.specs.Refusal.{numberOf}
 use Rattle.tally.proofs.Never.{never}
 use Rattle.contents.specs.Messages.{messageOk, emptyMessage}
 use Rattle.contents.specs.declared.Kind.{Kind}
@@ -20,7 +20,7 @@ use Rattle.consensus.specs.Step.{received}
 use Rattle.consensus.specs.Units.{atLog, downUnit}
 use Rattle.consensus.specs.declared.Answer.{Answer}
 use Rattle.consensus.specs.declared.Unit as U
-use Rattle.consensus.proofs.Branches.{by_kind, by-check, by-second, by-round, by-unless}
+use Rattle.consensus.proofs.Branches.{by-kind, by-check, by-second, by-round, by-unless}
 use Rattle.consensus.proofs.Refusals.{closes-next}
 use Rattle.agreement.specs.Contents.{begun}
 use Rattle.agreement.proofs.Follows.{sent-in}
@@ -28,7 +28,7 @@ use Rattle.agreement.proofs.History.{from-unit}
 use Rattle.script.specs.Script.{eventUnit, inRanges}
 use Rattle.script.specs.declared.ScriptEvent.{ScriptEvent}
 use Rattle.script.specs.declared.Header.{Header}
-use Rattle.bench_play.specs.Bench.{LineAnswer, start, noUnit, unit_at, messageAt, withUnit, withMessage}
+use Rattle.bench_play.specs.Bench.{LineAnswer, start, noUnit, unitAt, messageAt, withUnit, withMessage}
 use Rattle.bench_play.specs.Play.{Played, delivery, answer, play, benchAfter, unitAnswer}
 use Rattle.bench_play.specs.declared.Bench.{Bench}
 use Rattle.bench_play.specs.Claims.{Sized}
@@ -36,11 +36,11 @@ use Rattle.bench_history.specs.History.{setupOf, Below, contentsAfter}
 use Rattle.bench_history.specs.Covered.{met}
 use Rattle.bench_play.proofs.Accepting.{Accepts, delivered, cut-accepted, off-accepted, on-accepted}
 use Rattle.bench_history.proofs.Accepted.{sent-at}
-use Rattle.bench_history.proofs.Lists.{at_in}
+use Rattle.bench_history.proofs.Lists.{at-in}
 use Rattle.bench_play.proofs.Numbers.{of-unit}
 use Rattle.bench_play.proofs.PlayedLines.{unit-set, sized-answer, start-sized, reached-sized, line-played}
-use Rattle.bench_history.proofs.Lines.{below_parts}
-use Rattle.bench_play.proofs.Settled.{by_answer}
+use Rattle.bench_history.proofs.Lines.{below-parts}
+use Rattle.bench_play.proofs.Settled.{by-answer}
 use Rattle.bench_history.proofs.Simulation.{units-high, start-shows, simulated, after-inv}
 
 -- ---- a step
@@ -60,7 +60,7 @@ module _ (k : ℕ) where
   low-kind kind x m now logged =
       let same : (x.current.round ≤ k) × (x.logged.round ≤ k) = (omega arith, logged) in
       let written : (x.current.round ≤ k) × (x.current.round ≤ k) = (omega arith, omega arith) in
-      by_kind (LowAnswer k) kind x m
+      by-kind (LowAnswer k) kind x m
       (record {
         nothing = (same, omega arith);
         first = λ e free. (written, written.0);
@@ -95,30 +95,30 @@ module _ (k : ℕ) where
 
 -- no unit's round is above the number of messages kept, and none of message k above k
 record Slow (n : ℕ) (b : Bench) : Type 0 where
-  units : (u : ℕ) → u < n → Low b.kept (unit_at b u)
+  units : (u : ℕ) → u < n → Low b.kept (unitAt b u)
   messages : (k : ℕ) → k < b.kept → (messageAt b k).round ≤ k
 
 module _ (l : Limits) (n : ℕ) (high : n ≤ senders) (b : Bench) (sized : Sized b) (slow : Slow n b) where
   low-delivery : (u k : ℕ) → u < n → Accepts (delivery l b u k) → LowAnswer b.kept (delivery l b u k)
   low-delivery u k below ok =
       let d = delivered l b u k ok in
-      rw d.same (low-deliver b.kept l (unit_at b u) (messageAt b k) (slow.units u below) (omega (arith, slow.messages k d.sent)))
+      rw d.same (low-deliver b.kept l (unitAt b u) (messageAt b k) (slow.units u below) (omega (arith, slow.messages k d.sent)))
 
   low-event : (e : ScriptEvent) → eventUnit e < n → Accepts (unitAnswer l b e) → LowAnswer b.kept (unitAnswer l b e)
   unfolding unitAnswer
   low-event ScriptEvent.Malformed below ok = absurd (omega (arith, ok))
-  low-event (ScriptEvent.Propose u v) below ok = low-propose b.kept l (unit_at b u) v (slow.units u below)
+  low-event (ScriptEvent.Propose u v) below ok = low-propose b.kept l (unitAt b u) v (slow.units u below)
   low-event (ScriptEvent.Deliver u k) below ok = low-delivery u k below ok
   low-event (ScriptEvent.Cut u k) below ok =
       let c = cut-accepted (delivery l b u k) ok in
       rw c.1 (low-off b.kept (delivery l b u k).unit (rw c.1 at ok) (low-delivery u k below c.0).0.1)
-  low-event (ScriptEvent.KeyOff u) below ok = low-off b.kept (unit_at b u) ok (slow.units u below).1
-  low-event (ScriptEvent.KeyOn u) below ok = low-on b.kept (unit_at b u) ok (slow.units u below).1
+  low-event (ScriptEvent.KeyOff u) below ok = low-off b.kept (unitAt b u) ok (slow.units u below).1
+  low-event (ScriptEvent.KeyOn u) below ok = low-on b.kept (unitAt b u) ok (slow.units u below).1
 
   slow-answer : (e : ScriptEvent) → eventUnit e < n → Slow n (answer l b e).bench
-  unfolding withUnit withMessage unit_at messageAt
+  unfolding withUnit withMessage unitAt messageAt
   slow-answer e below =
-      by_answer (λ (r : LineAnswer). Slow n r.bench) l b e
+      by-answer (λ (r : LineAnswer). Slow n r.bench) l b e
       (record {
         refuses = λ some. slow;
         quiet = λ ok empty. record { units = units ok b.kept (omega arith); messages = slow.messages };
@@ -132,7 +132,7 @@ module _ (l : Limits) (n : ℕ) (high : n ≤ senders) (b : Bench) (sized : Size
       units : Accepts a → (k : ℕ) → b.kept ≤ k → (u : ℕ) → u < n → Low k (get_or (set b.units (eventUnit e) a.unit) u noUnit)
       units ok k more u h = rw (unit-set b (eventUnit e) a.unit u (omega (arith, sized.units))) (go (eqb u (eventUnit e)))
         where
-          go : (t : Bool) → Low k (cond t a.unit (unit_at b u))
+          go : (t : Bool) → Low k (cond t a.unit (unitAt b u))
           go true = let r = (low-event e below ok).0 in (omega (arith, r.0), omega (arith, r.1))
           go false = let r = slow.units u h in (omega (arith, r.0), omega (arith, r.1))
 
@@ -172,12 +172,12 @@ module _ (l : Limits) (h : Header) (range : inRanges h.n h.entry ≡ true) where
       slow : Slow h.n b
       slow = slow-after l h.n (units-high h range) es below (start h) (start-sized h) start-slow
 
-      never-last : (u : ℕ) → u < h.n → (k : ℕ) → k < b.kept → closesLast l (unit_at b u) (messageAt b k) ≡ true → ⊥
+      never-last : (u : ℕ) → u < h.n → (k : ℕ) → k < b.kept → closesLast l (unitAt b u) (messageAt b k) ≡ true → ⊥
       never-last u less k sent closes =
           omega (
             arith,
-            closes-next l (unit_at b u) (messageAt b k) closes,
-            (low-received b.kept (unit_at b u) (messageAt b k) (slow.units u less) (omega (arith, slow.messages k sent))).0.0,
+            closes-next l (unitAt b u) (messageAt b k) closes,
+            (low-received b.kept (unitAt b u) (messageAt b k) (slow.units u less) (omega (arith, slow.messages k sent))).0.0,
             (reached-sized h l es).kept,
           )
 
@@ -187,9 +187,9 @@ module _ (l : Limits) (h : Header) (range : inRanges h.n h.entry ≡ true) where
           let there = sent-at l h.n b (reached-sized h l es) _ w (simulated h range l es below) k sent in
           (from-unit l (setupOf h) w (after-inv h range l es below) (messageAt b k) (sent-in w.sent k (messageAt b k) there)).well-formed
 
-      answer-met : (e : ScriptEvent) → eventUnit e < h.n → Memᴰ (number_of (answer l b e).refusal) met
+      answer-met : (e : ScriptEvent) → eventUnit e < h.n → Memᴰ (numberOf (answer l b e).refusal) met
       answer-met e at =
-          by_answer (λ (r : LineAnswer). Memᴰ (number_of r.refusal) met) l b e
+          by-answer (λ (r : LineAnswer). Memᴰ (numberOf r.refusal) met) l b e
           (record {
             refuses = λ some. own;
             quiet = λ ok empty. is 0 (omega arith);
@@ -198,11 +198,11 @@ module _ (l : Limits) (h : Header) (range : inRanges h.n h.entry ≡ true) where
           })
         where
           is : (i : ℕ) → i < 7 → Memᴰ (get_or met i 0) met
-          is i less = at_in met i 0 less
+          is i less = at-in met i 0 less
 
-          own : Memᴰ (number_of (unitAnswer l b e).refusal) met
+          own : Memᴰ (numberOf (unitAnswer l b e).refusal) met
           own =
-              of-unit (λ k. Memᴰ (number_of k) met) l b e
+              of-unit (λ k. Memᴰ (numberOf k) met) l b e
               (record {
                 none = is 0 (omega arith);
                 line = is 3 (omega arith);
@@ -216,8 +216,8 @@ module _ (l : Limits) (h : Header) (range : inRanges h.n h.entry ≡ true) where
 
     -- 1 to 4 and 7 are never met
     pub numbers-met : (es : List ScriptEvent) → Below h.n es → (p : Played) → Memᴰ p (play l (start h) es)
-        → Memᴰ (number_of p.answer.refusal) met
+        → Memᴰ (numberOf p.answer.refusal) met
     numbers-met es below p there =
         let r = line-played l (start h) es p there in
-        let parts = below_parts h.n r.before p.event r.after (subst (Below h.n) r.split below) in
+        let parts = below-parts h.n r.before p.event r.after (subst (Below h.n) r.split below) in
         rw r.answer (answer-met r.before parts.0 p.event parts.1)

@@ -76,8 +76,8 @@ listed l sane s =
       covered = covered-script l sane s;
       lines = λ h es short e.
           let c = covered-script l sane s h es e in
-          rw (le-leb (length s) scriptSize short, e, c.as_many, ← c.kept);
-      too_long = listing-long l s;
+          rw (le-leb (length s) scriptSize short, e, c.as-many, ← c.kept);
+      too-long = listing-long l s;
       unread = unread-text l s;
     }
 

@@ -10,7 +10,7 @@ use lib.ListN.{get_or, take, set, get_or-append}
 use lib.Seq.{append_snoc, get_or_at, take-suc-set}
 use borrow.Author.Tests.{eqb-true, eqb-false, ne_eqb, lt-ltb, le-leb}
 use Rattle.tally.specs.Limits.{Limits, places, senders}
-use Rattle.tally.specs.Refusal.{number_of}
+use Rattle.tally.specs.Refusal.{numberOf}
 use Rattle.tally.specs.declared.Refusal.{Refusal}
 use Rattle.contents.specs.Logs.{settingsOk}
 use Rattle.contents.specs.declared.Kind.{Kind}
@@ -18,7 +18,7 @@ use Rattle.contents.specs.declared.Kind.TheVariants.{Empty, First, Check, Second
 use Rattle.contents.specs.declared.Message.{Message}
 use Rattle.consensus.specs.Step.{fresh}
 use Rattle.consensus.specs.declared.Answer.{Answer}
-use Rattle.consensus.proofs.Parts.{and_both}
+use Rattle.consensus.proofs.Parts.{and-both}
 use Rattle.agreement.specs.Contents.{ContentsWorld, begun, unlessEmpty, step}
 use Rattle.agreement.specs.Worlds.{run, settingsOf}
 use Rattle.agreement.proofs.History.{Inv, added, run-append, run-inv, begun-inv}
@@ -27,7 +27,7 @@ use Rattle.script.specs.declared.ScriptEvent.{ScriptEvent}
 use Rattle.script.specs.declared.Header.{Header}
 use Rattle.script.proofs.HeaderLines.{ranges}
 use Rattle.bench_play.specs.Bench as P
-use Rattle.bench_play.specs.Bench.{LineAnswer, freshUnits, start, noUnit, unit_at, refused, accepted, withUnit, withMessage}
+use Rattle.bench_play.specs.Bench.{LineAnswer, freshUnits, start, noUnit, unitAt, refused, accepted, withUnit, withMessage}
 use Rattle.bench_play.specs.Play.{Played, answer, play, benchAfter, unitAnswer}
 use Rattle.bench_play.specs.declared.Bench.{Bench}
 use Rattle.bench_play.specs.declared.Sent.{Sent}
@@ -37,7 +37,7 @@ use Rattle.bench_play.specs.Claims.{Sized}
 use Rattle.bench_history.proofs.Accepted.{Went, went}
 use Rattle.bench_history.proofs.Lists.{flat-snoc}
 use Rattle.bench_play.proofs.PlayedLines.{played, unit-set, sized-answer, fresh-length, start-sized}
-use Rattle.bench_play.proofs.Settled.{by_answer}
+use Rattle.bench_play.proofs.Settled.{by-answer}
 
 -- ---- one line
 
@@ -56,10 +56,10 @@ After l n lines w e r = Shows n r.bench (lines ++ (played e r ∷ [])) (run (ste
 module _ (l : Limits) (n : ℕ) (high : n ≤ senders) (b : Bench) (sized : Sized b) (lines : List Played) (w : ContentsWorld) (shows : Shows n b lines w)
     (e : ScriptEvent) (below : eventUnit e < n) where
   -- a refused line leaves all as it was
-  after-refused : (k : Refusal) → (number_of k ≡ 0 → ⊥) → After l n lines w e (refused b k)
+  after-refused : (k : Refusal) → (numberOf k ≡ 0 → ⊥) → After l n lines w e (refused b k)
   unfolding run proposals decisions
   after-refused k some =
-      let no = ne_eqb (number_of k) 0 some in
+      let no = ne_eqb (numberOf k) 0 some in
       rw no
       (record {
         units = shows.units;
@@ -73,7 +73,7 @@ module _ (l : Limits) (n : ℕ) (high : n ≤ senders) (b : Bench) (sized : Size
     after-accepted : (b' : Bench) (s : Sent) → b'.units ≡ set b.units (eventUnit e) a.unit
         → added w.sent (unlessEmpty a.message.kind a.message) ≡ take b'.kept b'.messages
         → After l n lines w e (accepted b' s a.decision)
-    unfolding unit_at proposals decisions
+    unfolding unitAt proposals decisions
     after-accepted b' s units sent =
         record {
           units = λ v h.
@@ -88,7 +88,7 @@ module _ (l : Limits) (n : ℕ) (high : n ≤ senders) (b : Bench) (sized : Size
   pub line-shows : After l n lines w e (answer l b e)
   unfolding withUnit withMessage
   line-shows =
-      by_answer (After l n lines w e) l b e
+      by-answer (After l n lines w e) l b e
       (record {
         refuses = λ some. after-refused (unitAnswer l b e).refusal some;
         full = λ ok some full. after-refused Refusal.Full (λ z. absurd (omega arith));
@@ -102,13 +102,13 @@ module _ (l : Limits) (n : ℕ) (high : n ≤ senders) (b : Bench) (sized : Size
       u : ℕ
       u = eventUnit e
 
-      gone : number_of a.refusal ≡ 0 → Went w (run (step l n) w (contentsEvent e)) (eventProposals e) u a
+      gone : numberOf a.refusal ≡ 0 → Went w (run (step l n) w (contentsEvent e)) (eventProposals e) u a
       gone ok = went l n b sized lines w shows e below ok
 
-      quiet : number_of a.refusal ≡ 0 → a.message.kind ≡ Empty → After l n lines w e (accepted (withUnit b u a.unit) Sent.Nothing a.decision)
+      quiet : numberOf a.refusal ≡ 0 → a.message.kind ≡ Empty → After l n lines w e (accepted (withUnit b u a.unit) Sent.Nothing a.decision)
       quiet ok empty = after-accepted a (gone ok) (withUnit b u a.unit) Sent.Nothing refl (rw empty shows.sent)
 
-      sends : number_of a.refusal ≡ 0 → (a.message.kind ≡ Empty → ⊥) → b.kept < places
+      sends : numberOf a.refusal ≡ 0 → (a.message.kind ≡ Empty → ⊥) → b.kept < places
           → After l n lines w e (accepted (withMessage (withUnit b u a.unit) a.message) (Sent.At b.kept) a.decision)
       sends ok some room =
           after-accepted a (gone ok) (withMessage (withUnit b u a.unit) a.message) (Sent.At b.kept) refl
@@ -129,10 +129,10 @@ module _ (l : Limits) (n : ℕ) (high : n ≤ senders) where
 
 -- ---- at the start
 
-fresh_at : (h : Header) (k u : ℕ) → u < k → get_or (freshUnits h k) u noUnit ≡ fresh (P.headerSettings h u)
+fresh-at : (h : Header) (k u : ℕ) → u < k → get_or (freshUnits h k) u noUnit ≡ fresh (P.headerSettings h u)
 unfolding freshUnits
-fresh_at h zero u b = absurd (omega arith)
-fresh_at h (suc k) u b = go (eqb u k) refl (fresh_at h k u)
+fresh-at h zero u b = absurd (omega arith)
+fresh-at h (suc k) u b = go (eqb u k) refl (fresh-at h k u)
   where
     go : (t : Bool) → eqb u k ≡ t → (u < k → get_or (freshUnits h k) u noUnit ≡ fresh (P.headerSettings h u))
         → get_or (freshUnits h k ++ (fresh (P.headerSettings h k) ∷ [])) u noUnit ≡ fresh (P.headerSettings h u)
@@ -151,12 +151,12 @@ module _ (h : Header) (range : inRanges h.n h.entry ≡ true) where
   pub settings-ok : (u : ℕ) → u < h.n → settingsOk (settingsOf (setupOf h) u) ≡ true
   settings-ok u below =
       let r = ranges h.n h.entry range in
-      and_both (and_both (and_both (and_both (le-leb _ _ r.0) (le-leb _ _ r.1)) (lt-ltb u h.n below)) (le-leb _ _ r.2)) (le-leb _ _ r.3)
+      and-both (and-both (and-both (and-both (le-leb _ _ r.0) (le-leb _ _ r.1)) (lt-ltb u h.n below)) (le-leb _ _ r.2)) (le-leb _ _ r.3)
 
   pub start-shows : Shows h.n (start h) [] (begun (setupOf h))
-  unfolding start unit_at begun proposals decisions flat_map
+  unfolding start unitAt begun proposals decisions flat_map
   start-shows =
-      record { units = λ u below. sym (fresh_at h senders u (omega (arith, units-high))); sent = refl; proposed = refl; decided = refl }
+      record { units = λ u below. sym (fresh-at h senders u (omega (arith, units-high))); sent = refl; proposed = refl; decided = refl }
 
   -- ---- the script
 

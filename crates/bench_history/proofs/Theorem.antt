@@ -18,7 +18,7 @@ use Rattle.bench_history.proofs.Decisions.{decisions-same, decision-proposed}
 use Rattle.bench_play.proofs.Numbers.{full-only, full-met}
 use Rattle.bench_history.proofs.OwnCalls.{calls}
 use Rattle.bench_history.proofs.Rounds.{numbers-met}
-use Rattle.bench_play.proofs.PlayedLines.{reached-sized, refused-stays, as_many, Numbered, numbered}
+use Rattle.bench_play.proofs.PlayedLines.{reached-sized, refused-stays, as-many, Numbered, numbered}
 use Rattle.bench_history.proofs.Simulation.{simulated}
 
 -- from the start, where nothing is kept
@@ -43,7 +43,7 @@ covered l sane h range es below =
       full-only = λ before later e split. full-only l (benchAfter l (start h) before) (reached-sized h l before) e;
       full-met = λ before later e split would full. full-met l (benchAfter l (start h) before) e would (omega arith);
       refused-stays = λ before later e split. refused-stays l (benchAfter l (start h) before) e;
-      as_many = as_many l (start h) es;
+      as-many = as-many l (start h) es;
       kept = kept;
       numbers = rw kept n.numbers;
       numbers-met = λ bound. numbers-met l h range bound es below;

@@ -2,7 +2,7 @@
 use Rattle.std.specs.Prelude.{ℕ, ◌≤◌, ◌<◌, ◌≡◌, length}
 use mathlib.Core.List.{List, [], ◌∷◌, ◌++◌, map, Memᴰ}
 use Rattle.tally.specs.Limits.{Limits, places}
-use Rattle.tally.specs.Refusal.{number_of}
+use Rattle.tally.specs.Refusal.{numberOf}
 use Rattle.tally.specs.declared.Estimate.TheVariants.{Mileage}
 use Rattle.tally.specs.declared.Refusal.{Refusal}
 use Rattle.agreement.specs.Bytes as B
@@ -34,12 +34,12 @@ pub record ProposedIn (v : ℕ) (lines : List Played) : Type 0 where
   pub there : Memᴰ line lines
   pub by : ℕ
   pub event : line.event ≡ ScriptEvent.Propose by v
-  pub accepted : number_of line.answer.refusal ≡ 0
+  pub accepted : numberOf line.answer.refusal ≡ 0
 
 -- the numbers that a script meets: 1 to 4 and 7 are not among them
 abbrev pub met : List ℕ
 met =
-    map number_of
+    map numberOf
     (Refusal.None ∷ Refusal.Addressee ∷ Refusal.Mileage ∷ Refusal.Line ∷ Refusal.Power ∷ Refusal.Unsent ∷ Refusal.Full ∷ [])
 
 -- of the header h and the events es
@@ -48,7 +48,7 @@ pub record Covered (l : Limits) (h : Header) (es : List ScriptEvent) : Type 0 wh
   -- the accepted lines are a history over contents, whose units, messages, proposals and decisions are the bench's
   pub contents : Shows h.n (reached l h es) (playedLines l h es) (contentsAfter l h es)
   -- and one over bytes, from units that are started, whose bytes are those of these contents
-  pub started : (u : ℕ) → u < h.n → (B.start_of l (setupOf h) (startLog l) (startImage l) u).number ≡ 0
+  pub started : (u : ℕ) → u < h.n → (B.startOf l (setupOf h) (startLog l) (startImage l) u).number ≡ 0
   pub bytes : Encodes l h.n (bytesAfter l h es) (contentsAfter l h es)
   -- each line is the call on its unit's own log and image, of which the bench makes what `settle` says, and each message delivered was sent
   pub calls : EachLine es (λ before e. OwnCall l (bytesAfter l h before) (reached l h before) e)
@@ -70,10 +70,10 @@ pub record Covered (l : Limits) (h : Header) (es : List ScriptEvent) : Type 0 wh
       WouldSend l (reached l h before) e → (reached l h before).kept ≡ places → (answer l (reached l h before) e).refusal ≡ Refusal.Full)
   -- a refused line changes nothing
   pub refused-stays : EachLine es (λ before e.
-      (number_of (answer l (reached l h before) e).refusal ≡ 0 → ⊥) → Unchanged (reached l h before) (answer l (reached l h before) e))
+      (numberOf (answer l (reached l h before) e).refusal ≡ 0 → ⊥) → Unchanged (reached l h before) (answer l (reached l h before) e))
   -- as many lines are played as the script has; as many messages kept as lines that sent one, and their numbers are 0, 1, 2 and so on
-  pub as_many : length (playedLines l h es) ≡ length es
+  pub as-many : length (playedLines l h es) ≡ length es
   pub kept : (reached l h es).kept ≡ length (sentNumbers (playedLines l h es))
   pub numbers : sentNumbers (playedLines l h es) ≡ rising 0 (reached l h es).kept
   -- where rounds go up to 128 or above, 1 to 4 and 7 are never met
-  pub numbers-met : places ≤ l.lastRound → (p : Played) → Memᴰ p (playedLines l h es) → Memᴰ (number_of p.answer.refusal) met
+  pub numbers-met : places ≤ l.lastRound → (p : Played) → Memᴰ p (playedLines l h es) → Memᴰ (numberOf p.answer.refusal) met

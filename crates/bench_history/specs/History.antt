@@ -2,7 +2,7 @@
 use Rattle.std.specs.Prelude.{ℕ, ◌<◌, ◌≡◌, Bool, cond, eqb, take, replicate}
 use mathlib.Core.List.{List, [], ◌∷◌, map, flat_map}
 use Rattle.tally.specs.Limits.{Limits, logSize, imageSize}
-use Rattle.tally.specs.Refusal.{number_of}
+use Rattle.tally.specs.Refusal.{numberOf}
 use Rattle.tally.specs.declared.Estimate.{Estimate}
 use Rattle.tally.specs.declared.Estimate.TheVariants.{Blank, Split, Mileage}
 use Rattle.formats.specs.Messages.{emptyBytes}
@@ -12,7 +12,7 @@ use Rattle.agreement.specs.Worlds.{Setup, Proposal, Decision, run}
 use Rattle.script.specs.Script.{eventUnit}
 use Rattle.script.specs.declared.ScriptEvent.{ScriptEvent}
 use Rattle.script.specs.declared.Header.{Header}
-use Rattle.bench_play.specs.Bench.{LineAnswer, start, unit_at}
+use Rattle.bench_play.specs.Bench.{LineAnswer, start, unitAt}
 use Rattle.bench_play.specs.Play.{Played, play}
 use Rattle.bench_play.specs.declared.Bench.{Bench}
 
@@ -27,7 +27,7 @@ Below n (e ∷ es) = (eventUnit e < n) × Below n es
 -- ---- the events of agreement
 
 abbrev pub lineAccepted : LineAnswer → Bool
-lineAccepted r = eqb (number_of r.refusal) 0
+lineAccepted r = eqb (numberOf r.refusal) 0
 
 -- what f gives of an accepted line's event; of a refused line nothing
 abbrev pub ofAccepted : {A : Type 0} → (ScriptEvent → List A) → Played → List A
@@ -96,7 +96,7 @@ withoutRound d = record { unit = d.unit; mileage = d.mileage }
 
 -- the world w is the bench b after the lines: the same units below n, messages, proposals and decisions
 pub record Shows (n : ℕ) (b : Bench) (lines : List Played) (w : C.ContentsWorld) : Type 0 where
-  pub units : (u : ℕ) → u < n → w.units u ≡ unit_at b u
+  pub units : (u : ℕ) → u < n → w.units u ≡ unitAt b u
   pub sent : w.sent ≡ take b.kept b.messages
   pub proposed : w.proposed ≡ proposals lines
   pub decided : map withoutRound w.decided ≡ decisions lines

@@ -16,5 +16,5 @@ pub record Listed (l : Limits) (s : List ℕ) : Type 0 where
   pub lines : (h : Header) (es : List ScriptEvent) → length s ≤ scriptSize → parse s ≡ script h es
       → listing l s ≡ headerLine h ++ (linesText 1 (playedLines l h es) ++ endText (length (playedLines l h es)) (length (sentNumbers (playedLines l h es))))
   -- any other prints as a malformed header
-  pub too_long : scriptSize < length s → listing l s ≡ malformedText
+  pub too-long : scriptSize < length s → listing l s ≡ malformedText
   pub unread : parse s ≡ malformed → listing l s ≡ malformedText

@@ -12,18 +12,18 @@ use lib.ListN.{length, get_or, set, length-append, length-replicate, length-set}
 use lib.Seq.{get_or-set_same, get_or-set_other}
 use borrow.Author.Tests.{eqb-true, eqb-false}
 use Rattle.tally.specs.Limits.{Limits, places, senders}
-use Rattle.tally.specs.Refusal.{number_of}
+use Rattle.tally.specs.Refusal.{numberOf}
 use Rattle.contents.specs.Messages.{emptyMessage}
 use Rattle.consensus.specs.declared.Unit as U
 use Rattle.script.specs.Script.{eventUnit}
 use Rattle.script.specs.declared.ScriptEvent.{ScriptEvent}
 use Rattle.script.specs.declared.Header.{Header}
-use Rattle.bench_play.specs.Bench.{LineAnswer, freshUnits, start, noUnit, unit_at, messageAt, withUnit, withMessage}
+use Rattle.bench_play.specs.Bench.{LineAnswer, freshUnits, start, noUnit, unitAt, messageAt, withUnit, withMessage}
 use Rattle.bench_play.specs.Play.{Played, unitAnswer, answer, play, benchAfter}
 use Rattle.bench_play.specs.declared.Bench.{Bench}
 use Rattle.bench_play.specs.declared.Sent.{Sent}
 use Rattle.bench_play.specs.Claims.{Sized, KeptStays, Unchanged, rising, sentNumbers}
-use Rattle.bench_play.proofs.Settled.{by_answer}
+use Rattle.bench_play.proofs.Settled.{by-answer}
 
 -- a line and what it was answered
 abbrev pub played : ScriptEvent → LineAnswer → Played
@@ -32,8 +32,8 @@ played e r = record { event = e; answer = r }
 -- ---- the bench
 
 -- the units after one is replaced
-pub unit-set : (b : Bench) (u : ℕ) (x : U.Unit) (v : ℕ) → u < length b.units → get_or (set b.units u x) v noUnit ≡ cond (eqb v u) x (unit_at b v)
-unfolding unit_at
+pub unit-set : (b : Bench) (u : ℕ) (x : U.Unit) (v : ℕ) → u < length b.units → get_or (set b.units u x) v noUnit ≡ cond (eqb v u) x (unitAt b v)
+unfolding unitAt
 unit-set b u x v h = go (eqb v u) refl
   where
     go : (t : Bool) → eqb v u ≡ t → get_or (set b.units u x) v noUnit ≡ cond t x (get_or b.units v noUnit)
@@ -43,7 +43,7 @@ unit-set b u x v h = go (eqb v u) refl
 pub sized-answer : (l : Limits) (b : Bench) → Sized b → (e : ScriptEvent) → Sized (answer l b e).bench
 unfolding withUnit withMessage
 sized-answer l b sized e =
-    by_answer (λ r. Sized r.bench) l b e
+    by-answer (λ r. Sized r.bench) l b e
     (record {
       refuses = λ some. sized;
       quiet = λ ok empty. record { units = size; messages = sized.messages; kept = sized.kept };
@@ -57,21 +57,21 @@ sized-answer l b sized e =
 
 -- ---- messages once kept
 
-kept_same : (b : Bench) → KeptStays b b
-kept_same b = record { kept = omega arith; messages = λ k h. refl }
+kept-same : (b : Bench) → KeptStays b b
+kept-same b = record { kept = omega arith; messages = λ k h. refl }
 
-kept_then : {a b c : Bench} → KeptStays a b → KeptStays b c → KeptStays a c
-kept_then f g =
+kept-then : {a b c : Bench} → KeptStays a b → KeptStays b c → KeptStays a c
+kept-then f g =
     record { kept = omega (arith, f.kept, g.kept); messages = λ k h. g.messages k (omega (arith, h, f.kept)) ∙ f.messages k h }
 
 answer-stays : (l : Limits) (b : Bench) (e : ScriptEvent) → KeptStays b (answer l b e).bench
 unfolding withUnit withMessage messageAt
 answer-stays l b e =
-    by_answer (λ r. KeptStays b r.bench) l b e
+    by-answer (λ r. KeptStays b r.bench) l b e
     (record {
-      refuses = λ some. kept_same b;
+      refuses = λ some. kept-same b;
       quiet = λ ok empty. record { kept = omega arith; messages = λ k h. refl };
-      full = λ ok some full. kept_same b;
+      full = λ ok some full. kept-same b;
       sends = λ ok some room.
           record { kept = omega arith; messages = λ k h. get_or-set_other b.messages b.kept k _ emptyMessage (λ same. omega (arith, same, h)) };
     })
@@ -79,8 +79,8 @@ answer-stays l b e =
 -- after any lines
 pub kept-stays : (l : Limits) (b : Bench) (es : List ScriptEvent) → KeptStays b (benchAfter l b es)
 unfolding benchAfter
-kept-stays l b [] = kept_same b
-kept-stays l b (e ∷ es) = kept_then (answer-stays l b e) (kept-stays l (answer l b e).bench es)
+kept-stays l b [] = kept-same b
+kept-stays l b (e ∷ es) = kept-then (answer-stays l b e) (kept-stays l (answer l b e).bench es)
 
 pub sized-after : (l : Limits) (es : List ScriptEvent) (b : Bench) → Sized b → Sized (benchAfter l b es)
 unfolding benchAfter
@@ -104,9 +104,9 @@ reached-sized h l es = sized-after l es (start h) (start-sized h)
 -- ---- a refused line
 
 -- of any bench and event
-pub refused-stays : (l : Limits) (b : Bench) (e : ScriptEvent) → (number_of (answer l b e).refusal ≡ 0 → ⊥) → Unchanged b (answer l b e)
+pub refused-stays : (l : Limits) (b : Bench) (e : ScriptEvent) → (numberOf (answer l b e).refusal ≡ 0 → ⊥) → Unchanged b (answer l b e)
 refused-stays l b e =
-    by_answer (λ r. (number_of r.refusal ≡ 0 → ⊥) → Unchanged b r) l b e
+    by-answer (λ r. (numberOf r.refusal ≡ 0 → ⊥) → Unchanged b r) l b e
     (record {
       refuses = λ some n. record { bench = refl; sent = refl; decision = refl };
       quiet = λ ok empty n. absurd (n refl);
@@ -138,10 +138,10 @@ line-played l b (e ∷ es) p h = go (Memᴰ.cases_cons h) (line-played l (answer
 -- ---- counts
 
 -- as many lines are played as the script has
-pub as_many : (l : Limits) (b : Bench) (es : List ScriptEvent) → length (play l b es) ≡ length es
+pub as-many : (l : Limits) (b : Bench) (es : List ScriptEvent) → length (play l b es) ≡ length es
 unfolding play
-as_many l b [] = refl
-as_many l b (e ∷ es) = ap suc (as_many l (answer l b e).bench es)
+as-many l b [] = refl
+as-many l b (e ∷ es) = ap suc (as-many l (answer l b e).bench es)
 
 -- of a line's answer: nothing is sent, or the message of the next number
 abbrev TakesNext : Bench → LineAnswer → Type 0
@@ -150,7 +150,7 @@ TakesNext b r = ((r.sent ≡ Sent.Nothing) × (r.bench.kept ≡ b.kept)) ⊎ ((r
 takes-next : (l : Limits) (b : Bench) (e : ScriptEvent) → TakesNext b (answer l b e)
 unfolding withUnit withMessage
 takes-next l b e =
-    by_answer (TakesNext b) l b e
+    by-answer (TakesNext b) l b e
     (record {
       refuses = λ some. inl (refl, refl);
       quiet = λ ok empty. inl (refl, refl);

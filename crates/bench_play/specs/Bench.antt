@@ -1,12 +1,12 @@
 -- The bench: its units and its message places. Assumes nothing.
 use Rattle.std.specs.Prelude.{ℕ, zero, suc, ◌+◌, Bool, cond, List, [], ◌∷◌, ◌++◌, leb, eqb, get_or, set, replicate}
 use Rattle.tally.specs.Limits.{places, senders}
-use Rattle.tally.specs.Refusal.{number_of}
+use Rattle.tally.specs.Refusal.{numberOf}
 use Rattle.tally.specs.declared.Engine.TheVariants.{B}
 use Rattle.tally.specs.declared.Estimate.{Estimate}
 use Rattle.tally.specs.declared.Estimate.TheVariants.{Blank}
 use Rattle.tally.specs.declared.Refusal.{Refusal}
-use Rattle.contents.specs.Messages.{is_empty, emptyMessage}
+use Rattle.contents.specs.Messages.{isEmpty, emptyMessage}
 use Rattle.contents.specs.declared.Message.{Message}
 use Rattle.contents.specs.declared.Settings.{Settings}
 use Rattle.consensus.specs.Step.{fresh, clean}
@@ -45,8 +45,8 @@ noUnit =
       seconds = record { marks = 0; cells = [] };
     }
 
-unfoldable pub unit_at : Bench → ℕ → U.Unit
-unit_at b u = get_or b.units u noUnit
+unfoldable pub unitAt : Bench → ℕ → U.Unit
+unitAt b u = get_or b.units u noUnit
 
 -- messages are numbered from 0; past the places there is none
 unfoldable pub messageAt : Bench → ℕ → Message
@@ -89,6 +89,6 @@ send b u a =
 -- what unit u's answer makes of the bench
 unfoldable pub settle : Bench → ℕ → Answer → LineAnswer
 settle b u a =
-    cond (eqb (number_of a.refusal) 0)
-    (cond (is_empty a.message.kind) (accepted (withUnit b u a.unit) Sent.Nothing a.decision) (send b u a))
+    cond (eqb (numberOf a.refusal) 0)
+    (cond (isEmpty a.message.kind) (accepted (withUnit b u a.unit) Sent.Nothing a.decision) (send b u a))
     (refused b a.refusal)

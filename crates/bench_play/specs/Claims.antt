@@ -2,7 +2,7 @@
 use Rattle.std.specs.Prelude.{ℕ, zero, suc, ◌≤◌, ◌<◌, ◌≡◌, length}
 use mathlib.Core.List.{List, [], ◌∷◌, flat_map}
 use Rattle.tally.specs.Limits.{Limits, senders, places}
-use Rattle.tally.specs.Refusal.{number_of}
+use Rattle.tally.specs.Refusal.{numberOf}
 use Rattle.tally.specs.declared.Estimate.TheVariants.{Blank}
 use Rattle.contents.specs.declared.Kind.TheVariants.{Empty}
 use Rattle.script.specs.declared.ScriptEvent.{ScriptEvent}
@@ -30,7 +30,7 @@ pub record Unchanged (b : Bench) (r : LineAnswer) : Type 0 where
 
 -- the event would send: its unit accepts it, with a message
 pub record WouldSend (l : Limits) (b : Bench) (e : ScriptEvent) : Type 0 where
-  pub accepted : number_of (unitAnswer l b e).refusal ≡ 0
+  pub accepted : numberOf (unitAnswer l b e).refusal ≡ 0
   pub message : (unitAnswer l b e).message.kind ≡ Empty → ⊥
 
 -- P or D

@@ -1,7 +1,7 @@
 -- Playing events on the bench: each runs a method of one unit. Assumes nothing.
 use Rattle.std.specs.Prelude.{ℕ, not, cond, List, [], ◌∷◌, leb, eqb}
 use Rattle.tally.specs.Limits.{Limits}
-use Rattle.tally.specs.Refusal.{number_of}
+use Rattle.tally.specs.Refusal.{numberOf}
 use Rattle.tally.specs.declared.Refusal.{Refusal}
 use Rattle.consensus.specs.Methods.{isUp, refuses, unless, propose, deliver, keyOff, keyOn}
 use Rattle.consensus.specs.Conditions.{Condition, condition}
@@ -9,7 +9,7 @@ use Rattle.consensus.specs.declared.Answer.{Answer}
 use Rattle.consensus.specs.declared.Unit as U
 use Rattle.script.specs.Script.{eventUnit}
 use Rattle.script.specs.declared.ScriptEvent.{ScriptEvent}
-use Rattle.bench_play.specs.Bench.{LineAnswer, noUnit, unit_at, messageAt, settle}
+use Rattle.bench_play.specs.Bench.{LineAnswer, noUnit, unitAt, messageAt, settle}
 use Rattle.bench_play.specs.declared.Bench.{Bench}
 
 -- 9 and 10 come before the unit's own numbers
@@ -17,20 +17,20 @@ unfoldable pub deliveryConditions : U.Unit → ℕ → ℕ → List Condition
 deliveryConditions x kept k = condition Refusal.Power (not (isUp x.power)) ∷ condition Refusal.Unsent (leb kept k) ∷ []
 
 unfoldable pub delivery : Limits → Bench → ℕ → ℕ → Answer
-delivery l b u k = unless (deliveryConditions (unit_at b u) b.kept k) (unit_at b u) (deliver l (unit_at b u) (messageAt b k))
+delivery l b u k = unless (deliveryConditions (unitAt b u) b.kept k) (unitAt b u) (deliver l (unitAt b u) (messageAt b k))
 
 -- W: as D, but the key goes off after the log write, if any; nothing is sent or decided. A refused W leaves the unit up
 unfoldable pub cutShort : Answer → Answer
-cutShort a = cond (eqb (number_of a.refusal) 0) (keyOff a.unit) a
+cutShort a = cond (eqb (numberOf a.refusal) 0) (keyOff a.unit) a
 
 -- what the unit of an event answers; a malformed line is no unit's, and refused with 8
 unfoldable pub unitAnswer : Limits → Bench → ScriptEvent → Answer
 unitAnswer l b ScriptEvent.Malformed = refuses noUnit Refusal.Line
-unitAnswer l b (ScriptEvent.Propose u v) = propose l (unit_at b u) v
+unitAnswer l b (ScriptEvent.Propose u v) = propose l (unitAt b u) v
 unitAnswer l b (ScriptEvent.Deliver u k) = delivery l b u k
 unitAnswer l b (ScriptEvent.Cut u k) = cutShort (delivery l b u k)
-unitAnswer l b (ScriptEvent.KeyOff u) = keyOff (unit_at b u)
-unitAnswer l b (ScriptEvent.KeyOn u) = keyOn (unit_at b u)
+unitAnswer l b (ScriptEvent.KeyOff u) = keyOff (unitAt b u)
+unitAnswer l b (ScriptEvent.KeyOn u) = keyOn (unitAt b u)
 
 unfoldable pub answer : Limits → Bench → ScriptEvent → LineAnswer
 answer l b e = settle b (eventUnit e) (unitAnswer l b e)

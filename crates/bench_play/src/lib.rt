@@ -1,4 +1,6 @@
 // The bench: units and message places. What events make of it is in specs/; crate bench_turns has the code of one event.
+#![tactic(auto)]
+
 use consensus::Unit;
 use contents::Message;
 use tally::limits;

@@ -1,7 +1,7 @@
 // The event of a line.
 ghost use Rattle.std.specs.Prelude.{◌≡◌};
 ghost use Rattle.script.specs.Parts.{comma, parted};
-ghost use Rattle.script.specs.Script.{one_of, twoOf, unitBelow, pairBelow, byLetter, eventLetter, eventOf};
+ghost use Rattle.script.specs.Script.{oneOf, twoOf, unitBelow, pairBelow, byLetter, eventLetter, eventOf};
 
 use super::{numbers, parts};
 use script::{NumberRead, PairRead, ScriptEvent};
@@ -39,7 +39,7 @@ fn pair_below(n: u8, p: PairRead) -> PairRead
 
 // The unit that the rest of a line says.
 fn unit_of(n: u8, rest: &[u8]) -> NumberRead
-    ensures { result ≡ unitBelow n (one_of (parted comma rest.now)) }
+    ensures { result ≡ unitBelow n (oneOf (parted comma rest.now)) }
 {
     unit_below(n, numbers::one(rest))
 }

@@ -2,7 +2,7 @@
 ghost use Rattle.std.specs.Prelude.{◌≡◌, true, ◌≤◌, length};
 ghost use Rattle.script.specs.Numbers.{maxDigits, isDigit, allDigits, leadingZero, valueFrom, readNumber};
 ghost use Rattle.script.specs.Parts.{comma, parted};
-ghost use Rattle.script.specs.Script.{both, one_of, twoOf};
+ghost use Rattle.script.specs.Script.{both, oneOf, twoOf};
 
 use super::parts;
 use script::{NumberRead, PairRead};
@@ -96,7 +96,7 @@ fn both(a: NumberRead, b: NumberRead) -> PairRead
 
 // One field that is a number: a comma is no digit.
 pub fn one(s: &[u8]) -> NumberRead
-    ensures { result ≡ one_of (parted comma s.now) }
+    ensures { result ≡ oneOf (parted comma s.now) }
 {
     read_number(s)
 }

@@ -1,4 +1,6 @@
 // A script read from one descriptor, and its listing written to another.
+#![tactic(auto)]
+
 ghost use Rattle.std.specs.Prelude.{◌≡◌, List, ℕ};
 ghost use Rattle.tally.specs.Limits.{today};
 ghost use Rattle.bench.specs.Listing.{listingCall};

@@ -26,16 +26,16 @@ then {xs} {ys} {zs} {at} {p} {r} {a} {b} f g =
 pub room-first : (at : ℕ) (a b xs : List ℕ) → at + length (a ++ b) ≤ length xs → at + length a ≤ length xs
 room-first at a b xs h = let h' : at + (length a + length b) ≤ length xs = rw length-append at h in omega arith
 
-pub room_next : {xs ys : List ℕ} {at p : ℕ} {a : List ℕ} (b : List ℕ) → Puts xs at a ys p → length ys ≡ length xs
+pub room-next : {xs ys : List ℕ} {at p : ℕ} {a : List ℕ} (b : List ℕ) → Puts xs at a ys p → length ys ≡ length xs
     → at + length (a ++ b) ≤ length xs
     → p + length b ≤ length ys
-room_next {xs} {ys} {at} {p} {a} b f e h =
+room-next {xs} {ys} {at} {p} {a} b f e h =
     let h' : at + (length a + length b) ≤ length xs = rw length-append at h in
     omega (arith, f.ends, e)
 
 -- nothing yet, a byte more, and all of a text
-pub puts_none : (xs s : List ℕ) (at : ℕ) → Puts xs at (take 0 s) xs (at + 0)
-puts_none xs s at = record { bytes = refl; ends = refl }
+pub puts-none : (xs s : List ℕ) (at : ℕ) → Puts xs at (take 0 s) xs (at + 0)
+puts-none xs s at = record { bytes = refl; ends = refl }
 
 pub puts-more : (xs ys s : List ℕ) (at i : ℕ) → i < length s → Puts xs at (take i s) ys (at + i)
     → Puts xs at (take (i + 1) s) (set ys (at + i) (get_or s i 0)) (at + (i + 1))

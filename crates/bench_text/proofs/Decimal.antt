@@ -7,8 +7,8 @@ use native.Mathlib.Decide.{dec_lt}
 use native.Mathlib.Omega.{arith}
 use borrow.Author.Tests.{le-leb, lt-leb, ne_eqb}
 use lib.ListN.{length, get_or, length-append, get_or-append}
-use Rattle.contents.proofs.Tests.{both_true}
-use Rattle.script.specs.Numbers.{digitZero, digitNine, maxDigits, maxNumber, isDigit, allDigits, leadingZero, valueFrom, is_number, readNumber}
+use Rattle.contents.proofs.Tests.{both-true}
+use Rattle.script.specs.Numbers.{digitZero, digitNine, maxDigits, maxNumber, isDigit, allDigits, leadingZero, valueFrom, isNumber, readNumber}
 use Rattle.script.specs.declared.NumberRead.{NumberRead}
 use Rattle.bench_text.specs.Text.{digits, decimal}
 use Rattle.bench_text.proofs.Digits.{few, many, lower, digits-short}
@@ -24,9 +24,9 @@ record Says (n : ℕ) (s : List ℕ) : Type 0 where
 digit : (d : ℕ) → d < 10 → isDigit (digitZero + d) ≡ true
 digit d h = rw (le-leb digitZero (digitZero + d) (omega arith), le-leb (digitZero + d) digitNine (omega arith))
 
-all_snoc : (s : List ℕ) (b : ℕ) → allDigits s ≡ true → isDigit b ≡ true → allDigits (s ++ (b ∷ [])) ≡ true
-all_snoc [] b h d = rw d
-all_snoc (x ∷ s) b h d = let t = both_true (isDigit x) (allDigits s) h in rw (t.0, all_snoc s b t.1 d)
+all-snoc : (s : List ℕ) (b : ℕ) → allDigits s ≡ true → isDigit b ≡ true → allDigits (s ++ (b ∷ [])) ≡ true
+all-snoc [] b h d = rw d
+all-snoc (x ∷ s) b h d = let t = both-true (isDigit x) (allDigits s) h in rw (t.0, all-snoc s b t.1 d)
 
 value-snoc : (v : ℕ) (s : List ℕ) (b : ℕ) → valueFrom v (s ++ (b ∷ [])) ≡ valueFrom v s * 10 + (b - digitZero)
 value-snoc v [] b = refl
@@ -40,7 +40,7 @@ says-more : (n : ℕ) (s : List ℕ) → 10 ≤ n → Says (n / 10) s → Says n
 says-more n s h r =
     record {
       some = rw length-append (omega arith);
-      all = all_snoc s (digitZero + n % 10) r.all (digit (n % 10) (omega arith));
+      all = all-snoc s (digitZero + n % 10) r.all (digit (n % 10) (omega arith));
       first = λ some zero. r.first (omega arith) (sym (get_or-append s _ 0 0 r.some) ∙ zero);
       alone = λ l. absurd (omega arith);
       value = value-snoc 0 s (digitZero + n % 10) ∙ rw r.value (omega arith);
@@ -66,7 +66,7 @@ no-leading-zero n s r = go (dec_lt 0 n)
     go (no g) = rw (lt-leb 2 (length s) (omega (arith, r.alone (omega arith))))
 
 says-read : (n : ℕ) (s : List ℕ) → Says n s → length s ≤ maxDigits → n ≤ maxNumber → readNumber s ≡ NumberRead.Is n
-unfolding readNumber is_number
+unfolding readNumber isNumber
 says-read n s r short most =
     simp (le-leb 1 (length s) r.some, le-leb (length s) maxDigits short, r.all, no-leading-zero n s r, r.value, le-leb n maxNumber most)
 

@@ -31,6 +31,6 @@ cases =
     ∷ case (endText 5 3) (101 ∷ 110 ∷ 100 ∷ 44 ∷ 53 ∷ 44 ∷ 51 ∷ 10 ∷ [])
     ∷ []
 
-pub all_hold : map (λ c. c.text) cases ≡ map (λ c. c.expected) cases
+pub all-hold : map (λ c. c.text) cases ≡ map (λ c. c.expected) cases
 unfolding decimal shownText fieldText headerText lineText endText
-all_hold = refl
+all-hold = refl

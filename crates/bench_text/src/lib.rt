@@ -1,4 +1,6 @@
 // The lines of a listing, appended to a lent buffer.
+#![tactic(auto)]
+
 ghost use Rattle.std.specs.Prelude.{◌+◌, ◌≤◌, ◌<◌, ◌^◌, [], ◌∷◌, length};
 ghost use Rattle.bench_text.specs.Text.{digits, decimal, shownText, fieldText, headerText, lineText, endText};
 ghost use Rattle.bench_text.specs.InnerText.{twoText, threeText, Puts};

@@ -10,19 +10,19 @@ use borrow.Author.Tests.{eq-eqb, ne_eqb, ltb-true, ltb-false, le-leb, lt-leb}
 use Rattle.tally.proofs.Never.{never}
 use Rattle.tally.specs.Limits.{Limits, places}
 use Rattle.tally.specs.declared.Refusal.{Refusal}
-use Rattle.contents.specs.Messages.{is_empty, emptyMessage}
+use Rattle.contents.specs.Messages.{isEmpty, emptyMessage}
 use Rattle.contents.specs.declared.Kind.{Kind}
 use Rattle.contents.specs.declared.Kind.TheVariants.{Empty, First, Check, Second, Skip}
-use Rattle.consensus.specs.Conditions.{condition, first_of}
+use Rattle.consensus.specs.Conditions.{condition, firstOf}
 use Rattle.consensus.specs.Methods.{isUp, unless, deliver}
 use Rattle.consensus.specs.declared.Answer.{Answer}
 use Rattle.consensus.specs.declared.Unit as U
 use Rattle.script.specs.Script.{eventUnit}
 use Rattle.script.specs.declared.ScriptEvent.{ScriptEvent}
-use Rattle.bench_play.specs.Bench.{LineAnswer, noUnit, unit_at, messageAt, noPlaceLeft, withUnit, withMessage, settle}
+use Rattle.bench_play.specs.Bench.{LineAnswer, noUnit, unitAt, messageAt, noPlaceLeft, withUnit, withMessage, settle}
 use Rattle.bench_play.specs.Play.{deliveryConditions, delivery, unitAnswer, answer}
 use Rattle.bench_play.specs.declared.Bench.{Bench}
-use Rattle.bench_play.proofs.Settled.{by-settle, by_answer, answer-line}
+use Rattle.bench_play.proofs.Settled.{by-settle, by-answer, answer-line}
 use Rattle.bench_turns.specs.InnerTurns.{placeOrFirst, eventPlace, turnDelivery, turn, outcomeOf, isAccepted, isSent}
 use Rattle.bench_turns.specs.declared.LineOutcome.{LineOutcome}
 
@@ -46,17 +46,17 @@ place-below (ScriptEvent.KeyOn u) = omega arith
 -- ---- what comes of an answer
 
 -- the bench after unit u's answer a, of which o came: as it was where that is a refusal
-abbrev after_turn : Bench → ℕ → Answer → LineOutcome → Bench
-after_turn b u a o =
+abbrev afterTurn : Bench → ℕ → Answer → LineOutcome → Bench
+afterTurn b u a o =
     cond (isAccepted o)
     (cond (isSent o.sent) (withMessage (withUnit b u a.unit) a.message) (withUnit b u a.unit))
     b
 
 -- and what the line is answered
 abbrev pub lineAnswer : Bench → ℕ → Answer → LineOutcome → LineAnswer
-lineAnswer b u a o = record { bench = after_turn b u a o; refusal = o.refusal; sent = o.sent; decision = o.decision }
+lineAnswer b u a o = record { bench = afterTurn b u a o; refusal = o.refusal; sent = o.sent; decision = o.decision }
 
-some-kind : (k : Kind) → (k ≡ Empty → ⊥) → is_empty k ≡ false
+some-kind : (k : Kind) → (k ≡ Empty → ⊥) → isEmpty k ≡ false
 some-kind Empty some = absurd (some refl)
 some-kind First some = refl
 some-kind Check some = refl
@@ -79,12 +79,12 @@ settles b u a =
 
 -- where there is no message of that number, none is looked at
 unsent-unread : (l : Limits) (b : Bench) (u k : ℕ) → b.kept ≤ places
-    → turnDelivery l (unit_at b u) b.kept (messageAt b (placeOrFirst k)) k ≡ delivery l b u k
-unfolding turnDelivery delivery deliveryConditions unless first_of
+    → turnDelivery l (unitAt b u) b.kept (messageAt b (placeOrFirst k)) k ≡ delivery l b u k
+unfolding turnDelivery delivery deliveryConditions unless firstOf
 unsent-unread l b u k h = go (ltb k places) refl
   where
     x : U.Unit
-    x = unit_at b u
+    x = unitAt b u
 
     unsent : (up : Bool) (a c : Answer)
         → unless (condition Refusal.Power (not up) ∷ condition Refusal.Unsent true ∷ []) x a
@@ -102,7 +102,7 @@ unsent-unread l b u k h = go (ltb k places) refl
 
 -- of event e on the bench b
 abbrev turnOn : Limits → Bench → ScriptEvent → Answer
-turnOn l b e = turn l (unit_at b (eventUnit e)) b.kept (messageAt b (eventPlace e)) e
+turnOn l b e = turn l (unitAt b (eventUnit e)) b.kept (messageAt b (eventPlace e)) e
 
 pub turn-answers : (l : Limits) (b : Bench) (e : ScriptEvent) → b.kept ≤ places
     → lineAnswer b (eventUnit e) (turnOn l b e) (outcomeOf b.kept (turnOn l b e)) ≡ answer l b e
@@ -121,7 +121,7 @@ pub record Turned (l : Limits) (b : Bench) (e : ScriptEvent) (u : ℕ) (a : Answ
 -- as the code has it, of unit u and message k of the bench
 pub turned : (l : Limits) (b : Bench) (e : ScriptEvent) (u k : ℕ) (a : Answer) (o : LineOutcome) → b.kept ≤ places → u ≡ eventUnit e → k ≡ eventPlace e
     → a ≡ turn l (get_or b.units u noUnit) b.kept (get_or b.messages k emptyMessage) e → o ≡ outcomeOf b.kept a → Turned l b e u a o
-unfolding unit_at messageAt
+unfolding unitAt messageAt
 turned l b e u k a o h at place took came = record { same = rw (came, took, at, place) (turn-answers l b e h) }
 
 -- ---- the bench as the stores leave it
@@ -133,10 +133,10 @@ module _ {l : Limits} {b : Bench} {e : ScriptEvent} {u : ℕ} {a : Answer} {o : 
     where
       room : isSent (answer l b e).sent ≡ true → b.kept < places
       room =
-          by_answer (λ r. isSent r.sent ≡ true → b.kept < places) l b e
+          by-answer (λ r. isSent r.sent ≡ true → b.kept < places) l b e
           (record { refuses = λ some h. never h; quiet = λ ok empty h. never h; full = λ ok some no h. never h; sends = λ ok some room h. room })
 
-  same-bench : after_turn b u a o ≡ (answer l b e).bench
+  same-bench : afterTurn b u a o ≡ (answer l b e).bench
   same-bench = ap (λ (r : LineAnswer). r.bench) t.same
 
   pub after-sent : isAccepted o ≡ true → isSent o.sent ≡ true

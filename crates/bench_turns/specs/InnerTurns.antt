@@ -1,11 +1,11 @@
 -- What inner functions promise, of which no public call's contract speaks: an event as a turn of its unit. Assumes nothing.
 use Rattle.std.specs.Prelude.{ℕ, Bool, true, false, cond, ltb, eqb}
 use Rattle.tally.specs.Limits.{Limits, places}
-use Rattle.tally.specs.Refusal.{number_of}
+use Rattle.tally.specs.Refusal.{numberOf}
 use Rattle.tally.specs.declared.Estimate.{Estimate}
 use Rattle.tally.specs.declared.Estimate.TheVariants.{Blank}
 use Rattle.tally.specs.declared.Refusal.{Refusal}
-use Rattle.contents.specs.Messages.{is_empty}
+use Rattle.contents.specs.Messages.{isEmpty}
 use Rattle.contents.specs.declared.Message.{Message}
 use Rattle.consensus.specs.Methods.{refuses, unless, propose, deliver, keyOff, keyOn}
 use Rattle.consensus.specs.declared.Answer.{Answer}
@@ -57,12 +57,12 @@ sendOutcome kept d = cond (noPlaceLeft kept) (refusedOutcome Refusal.Full) (acce
 
 unfoldable pub outcomeOf : ℕ → Answer → LineOutcome
 outcomeOf kept a =
-    cond (eqb (number_of a.refusal) 0)
-    (cond (is_empty a.message.kind) (acceptedOutcome Sent.Nothing a.decision) (sendOutcome kept a.decision))
+    cond (eqb (numberOf a.refusal) 0)
+    (cond (isEmpty a.message.kind) (acceptedOutcome Sent.Nothing a.decision) (sendOutcome kept a.decision))
     (refusedOutcome a.refusal)
 
 abbrev pub isAccepted : LineOutcome → Bool
-isAccepted o = eqb (number_of o.refusal) 0
+isAccepted o = eqb (numberOf o.refusal) 0
 
 abbrev pub isSent : Sent → Bool
 isSent Sent.Nothing = false

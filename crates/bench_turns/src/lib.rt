@@ -1,4 +1,6 @@
 // The bench at its start, and an event as a turn of its unit: what it takes of the bench goes in by value, and what it makes of it comes back.
+#![tactic(auto)]
+
 ghost use Rattle.std.specs.Prelude.{◌≡◌};
 ghost use Rattle.tally.specs.Limits.{today, senders};
 ghost use Rattle.script.specs.Script.{eventUnit};

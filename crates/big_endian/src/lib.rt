@@ -1,22 +1,24 @@
 // Numbers in bytes, the highest byte first.
+#![tactic(auto)]
+
 ghost use Rattle.std.specs.Prelude.{◌≡◌, [], ◌∷◌, ◌+◌, ◌≤◌, length};
 ghost use Rattle.std.proofs.lemmas.List.Edits.{sets};
 ghost use Rattle.tally.specs.Limits.{today};
-ghost use Rattle.formats.specs.Numbers.{num_at, bytes_of};
+ghost use Rattle.formats.specs.Numbers.{numAt, bytesOf};
 ghost use Rattle.formats.specs.InnerNumbers.{packInto};
 
 use tally::limits::Round;
 
 pub fn be8(s: &[u8], at: usize) -> u8
     requires { at + 1 ≤ length s.now }
-    ensures { result ≡ num_at s.now at 1 }
+    ensures { result ≡ numAt s.now at 1 }
 {
     s[at]
 }
 
 pub fn be16(s: &[u8], at: usize) -> u16
     requires { at + 2 ≤ length s.now }
-    ensures { result ≡ num_at s.now at 2 }
+    ensures { result ≡ numAt s.now at 2 }
 {
     let high = be8(s, at) as u16;
     let low = be8(s, at + 1) as u16;
@@ -25,28 +27,28 @@ pub fn be16(s: &[u8], at: usize) -> u16
 
 pub fn be32(s: &[u8], at: usize) -> u32
     requires { at + 4 ≤ length s.now }
-    ensures { result ≡ num_at s.now at 4 }
+    ensures { result ≡ numAt s.now at 4 }
 {
     (be16(s, at) as u32) * 65536 + (be16(s, at + 2) as u32)
 }
 
 pub fn be_round(s: &[u8], at: usize) -> Round
     requires { at + today.roundWidth ≤ length s.now }
-    ensures { result ≡ num_at s.now at today.roundWidth }
+    ensures { result ≡ numAt s.now at today.roundWidth }
 {
     be16(s, at)
 }
 
 pub fn put8(s: &mut [u8], at: usize, x: u8)
     requires { at + 1 ≤ length s.old }
-    ensures { s.new ≡ sets s.old at (bytes_of 1 x) }
+    ensures { s.new ≡ sets s.old at (bytesOf 1 x) }
 {
     s[at] = x;
 }
 
 pub fn put16(s: &mut [u8], at: usize, x: u16)
     requires { at + 2 ≤ length s.old }
-    ensures { s.new ≡ sets s.old at (bytes_of 2 x) }
+    ensures { s.new ≡ sets s.old at (bytesOf 2 x) }
 {
     s[at] = (x / 256 % 256) as u8;
     s[at + 1] = (x % 256) as u8;
@@ -54,7 +56,7 @@ pub fn put16(s: &mut [u8], at: usize, x: u16)
 
 pub fn put32(s: &mut [u8], at: usize, x: u32)
     requires { at + 4 ≤ length s.old }
-    ensures { s.new ≡ sets s.old at (bytes_of 4 x) }
+    ensures { s.new ≡ sets s.old at (bytesOf 4 x) }
 {
     s[at] = (x / 256 / 256 / 256 % 256) as u8;
     s[at + 1] = (x / 256 / 256 % 256) as u8;
@@ -64,7 +66,7 @@ pub fn put32(s: &mut [u8], at: usize, x: u32)
 
 pub fn put_round(s: &mut [u8], at: usize, x: Round)
     requires { at + today.roundWidth ≤ length s.old }
-    ensures { s.new ≡ sets s.old at (bytes_of today.roundWidth x) }
+    ensures { s.new ≡ sets s.old at (bytesOf today.roundWidth x) }
 {
     put16(s, at, x);
 }

@@ -1,5 +1,7 @@
 // The scope paper's worked cases through the C entries: its listing, the examples of the numbers 1 to 7, and the last rounds. What is
 // printed is held to the file `stdout`.
+#![tactic(auto)]
+
 mod show;
 
 use tally::limits;

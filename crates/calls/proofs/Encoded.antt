@@ -7,7 +7,7 @@ use lib.Dec.{eqb}
 use lib.ListN.{length}
 use borrow.Author.Tests.{eq-eqb, not-false}
 use Rattle.tally.specs.Limits.{Limits, Sane, blankCode, logSize, imageSize, messageSize}
-use Rattle.tally.specs.Refusal.{number_of}
+use Rattle.tally.specs.Refusal.{numberOf}
 use Rattle.tally.specs.declared.Engine.{Engine}
 use Rattle.tally.specs.declared.Refusal.{Refusal}
 use Rattle.tally.proofs.Never.{never}
@@ -15,10 +15,10 @@ use Rattle.contents.specs.Logs.{logOk, numbersOk, settingsOk}
 use Rattle.contents.specs.Messages.{messageOk}
 use Rattle.contents.specs.declared.Log.{Log}
 use Rattle.contents.specs.declared.Message.{Message}
-use Rattle.formats.specs.Codes.{code_of, engineOf}
-use Rattle.formats.specs.Formats.{reading, Format, to_bytes}
+use Rattle.formats.specs.Codes.{codeOf, engineOf}
+use Rattle.formats.specs.Formats.{reading, Format, toBytes}
 use Rattle.formats.specs.Images.{imageFormat, readImage, imageBytes}
-use Rattle.formats.specs.Logs.{logFormat, read_log}
+use Rattle.formats.specs.Logs.{logFormat, readLog}
 use Rattle.formats.specs.Messages.{messageFormat, readMessage, emptyBytes, cleared}
 use Rattle.formats.specs.declared.EngineRead.{EngineRead}
 use Rattle.formats.specs.declared.EngineRead.TheVariants.{Is, Unknown}
@@ -28,7 +28,7 @@ use Rattle.formats.proofs.MessageFormat as message
 use Rattle.formats.proofs.RoundTrips.{LawfulFormat, read-written}
 use Rattle.formats.proofs.Packed.{length-pack}
 use Rattle.consensus.specs.Methods.{propose, deliver, proposeConditions, deliverConditions, unless, refuses}
-use Rattle.consensus.specs.Conditions.{Condition, first_of, NoneHolds}
+use Rattle.consensus.specs.Conditions.{Condition, firstOf, NoneHolds}
 use Rattle.consensus.specs.Step.{received, recovered, proposed, fresh}
 use Rattle.consensus.proofs.Answers.{plain-received, plain-proposed, proposed-keeps}
 use Rattle.consensus.specs.Units.{WellFormed, unitLog, unitImage, upUnit, downUnit}
@@ -54,12 +54,12 @@ pub record Started (l : Limits) (engine n unit entry : ℕ) (c : CallAnswer) : T
       (imageBytes l (unitImage (fresh (settingsFor (Is known) n unit entry)))) [] blankCode
 
 length-bytes : {A : Type 0} (f : Format A) (Typed : A → Type 0) (law : LawfulFormat f Typed) (a : A) → Typed a → f.ok a ≡ true
-    → length (to_bytes f a) ≡ f.size
+    → length (toBytes f a) ≡ f.size
 length-bytes f Typed law a t ok = length-pack f.widths _ (law.fit a t ok) ∙ sym law.sized
 
 module _ (l : Limits) (sane : Sane l) where
-  pub read-log : (r : Log) → logOk l r ≡ true → (read_log l (logBytes l r) ≡ reading 0 r) × (length (logBytes l r) ≡ logSize l)
-  unfolding read_log logBytes
+  pub read-log : (r : Log) → logOk l r ≡ true → (readLog l (logBytes l r) ≡ reading 0 r) × (length (logBytes l r) ≡ logSize l)
+  unfolding readLog logBytes
   read-log r ok = (
     read-written (logFormat l) (λ r. Unit) (log.lawful l sane) r tt ok,
     length-bytes (logFormat l) (λ r. Unit) (log.lawful l sane) r tt ok,
@@ -74,7 +74,7 @@ module _ (l : Limits) (sane : Sane l) where
   )
 
   pub read-message : (m : Message) → messageOk l m ≡ true
-      → (readMessage l (to_bytes (messageFormat l) m) ≡ reading 0 m) × (length (to_bytes (messageFormat l) m) ≡ messageSize l)
+      → (readMessage l (toBytes (messageFormat l) m) ≡ reading 0 m) × (length (toBytes (messageFormat l) m) ≡ messageSize l)
   unfolding readMessage
   read-message m ok = (
     read-written (messageFormat l) (λ m. Unit) (message.lawful l sane) m tt ok,
@@ -106,15 +106,15 @@ module _ (l : Limits) (sane : Sane l) where
     unit-image = rw ((read-log (unitLog u) w.log).0, (read-image u w).0, w.fit)
 
     -- where the conditions of a call come to those of the method, the call's answer is the method's, as bytes
-    same_answer : (cs late : List Condition) (a : Answer) (out : List ℕ) → first_of cs ≡ first_of late → a.refusal ≡ Refusal.None
+    same-answer : (cs late : List Condition) (a : Answer) (out : List ℕ) → firstOf cs ≡ firstOf late → a.refusal ≡ Refusal.None
         → length out ≡ messageSize l → unlessRefused l cs logB imageB out (accepted l a) ≡ answered l (unless late u a)
     unfolding unless messageBytes cleared
-    same_answer cs late a out same none size =
-        rw (same, eq-eqb (length out) (messageSize l) size) (go (first_of late) (eqb (number_of (first_of late)) 0) refl)
+    same-answer cs late a out same none size =
+        rw (same, eq-eqb (length out) (messageSize l) size) (go (firstOf late) (eqb (numberOf (firstOf late)) 0) refl)
       where
-        go : (k : Refusal) (b : Bool) → eqb (number_of k) 0 ≡ b
-            → cond b (accepted l a) (called (number_of k) logB imageB (emptyBytes l) blankCode) ≡ answered l (cond b a (refuses u k))
-        go k true e = ap (λ r. called (number_of r) (answered l a).log (answered l a).image (answered l a).out (answered l a).decision) (sym none)
+        go : (k : Refusal) (b : Bool) → eqb (numberOf k) 0 ≡ b
+            → cond b (accepted l a) (called (numberOf k) logB imageB (emptyBytes l) blankCode) ≡ answered l (cond b a (refuses u k))
+        go k true e = ap (λ r. called (numberOf r) (answered l a).log (answered l a).image (answered l a).out (answered l a).decision) (sym none)
         go k false e = refl
 
     module _ (up : u.power ≡ Up) where
@@ -124,15 +124,15 @@ module _ (l : Limits) (sane : Sane l) where
           ap (λ p. record { power = p; settings = u.settings; logged = u.logged; current = u.current; checks = u.checks; seconds = u.seconds }) (sym up)
 
       module _ (m : Message) (out : List ℕ) (ok : messageOk l m ≡ true) (size : length out ≡ messageSize l) where
-        deliver-conditions : first_of (deliverCallConditions l logB imageB (to_bytes (messageFormat l) m) out)
-            ≡ first_of (deliverConditions l u m)
-        unfolding deliverCallConditions deliverConditions first_of badMessage
+        deliver-conditions : firstOf (deliverCallConditions l logB imageB (toBytes (messageFormat l) m) out)
+            ≡ firstOf (deliverConditions l u m)
+        unfolding deliverCallConditions deliverConditions firstOf badMessage
         deliver-conditions =
             rw (
               unit-lengths,
               unit-log,
               unit-image,
-              eq-eqb (length (to_bytes (messageFormat l) m)) (messageSize l) (read-message m ok).1,
+              eq-eqb (length (toBytes (messageFormat l) m)) (messageSize l) (read-message m ok).1,
               eq-eqb (length out) (messageSize l) size,
               (read-message m ok).0,
               (read-log (unitLog u) w.log).0,
@@ -142,17 +142,17 @@ module _ (l : Limits) (sane : Sane l) where
               ok,
             )
 
-        pub deliver-encoded : deliverCall l logB imageB (to_bytes (messageFormat l) m) out
+        pub deliver-encoded : deliverCall l logB imageB (toBytes (messageFormat l) m) out
             ≡ answered l (deliver l u m)
         unfolding deliverCall deliver
         deliver-encoded =
             rw ((read-message m ok).0, (read-log (unitLog u) w.log).0, (read-image u w).0, same-unit)
-            (same_answer (deliverCallConditions l logB imageB (to_bytes (messageFormat l) m) out) (deliverConditions l u m) (received u m) out
+            (same-answer (deliverCallConditions l logB imageB (toBytes (messageFormat l) m) out) (deliverConditions l u m) (received u m) out
             deliver-conditions (plain-received u m).none size)
 
       module _ (v : ℕ) (out : List ℕ) (size : length out ≡ messageSize l) where
-        propose-conditions : first_of (proposeCallConditions l logB imageB v out) ≡ first_of (proposeConditions l u v)
-        unfolding proposeCallConditions proposeConditions first_of
+        propose-conditions : firstOf (proposeCallConditions l logB imageB v out) ≡ firstOf (proposeConditions l u v)
+        unfolding proposeCallConditions proposeConditions firstOf
         propose-conditions = rw (unit-lengths, unit-log, unit-image, eq-eqb (length out) (messageSize l) size, up)
 
         pub propose-encoded : proposeCall l logB imageB v out ≡ answered l (propose l u v)
@@ -162,14 +162,14 @@ module _ (l : Limits) (sane : Sane l) where
             (ap₂ (λ (r : Log) (d : ℕ).
             unlessRefused l (proposeCallConditions l logB imageB v out) logB imageB out
             (called 0 (logBytes l r) (answered l (proposed u v)).image (answered l (proposed u v)).out d))
-            (sym (proposed-keeps u v).0) (ap code_of (sym (proposed-keeps u v).1))
-            ∙ same_answer (proposeCallConditions l logB imageB v out) (proposeConditions l u v) (proposed u v) out propose-conditions
+            (sym (proposed-keeps u v).0) (ap codeOf (sym (proposed-keeps u v).1))
+            ∙ same-answer (proposeCallConditions l logB imageB v out) (proposeConditions l u v) (proposed u v) out propose-conditions
             (plain-proposed u v).none size)
 
   -- key-on of a log's bytes, whatever the image buffer holds
   pub key-on-encoded : (r : Log) (image : List ℕ) → logOk l r ≡ true → length image ≡ imageSize l
       → keyOnCall l (logBytes l r) image ≡ called 0 (logBytes l r) (imageBytes l (unitImage (recovered (downUnit r)))) [] blankCode
-  unfolding keyOnCall keyOnCallConditions first_of badLog unitLengths
+  unfolding keyOnCall keyOnCallConditions firstOf badLog unitLengths
   key-on-encoded r image ok size =
       rw (
         eq-eqb (length (logBytes l r)) (logSize l) (read-log r ok).1,
@@ -180,7 +180,7 @@ module _ (l : Limits) (sane : Sane l) where
   -- starting, whatever the buffers hold
   pub start-accepted : (engine n unit entry : ℕ) (log image : List ℕ) → (startCall l engine n unit entry log image).number ≡ 0
       → Started l engine n unit entry (startCall l engine n unit entry log image)
-  unfolding startCall startCallConditions first_of badSettings
+  unfolding startCall startCallConditions firstOf badSettings
   start-accepted engine n unit entry log image zero = go (engineOf engine) refl cs.1.0
     where
       cs : NoneHolds (startCallConditions l engine n unit entry log image)

@@ -9,7 +9,7 @@ use lib.ListN.{length}
 use borrow.Author.Tests.{eqb-true, lt-ltb, ltb-true, not-false}
 use Rattle.contents.specs.Messages.{messageOk, emptyMessage}
 use Rattle.tally.specs.Limits.{Limits, Sane, logSize, imageSize, messageSize}
-use Rattle.tally.specs.Refusal.{number_of}
+use Rattle.tally.specs.Refusal.{numberOf}
 use Rattle.tally.specs.declared.Refusal.{Refusal}
 use Rattle.tally.proofs.Bounds.{entry-fits, units-fit, everyone-fits}
 use Rattle.tally.proofs.Never.{never}
@@ -18,11 +18,11 @@ use Rattle.contents.specs.declared.Image.{Image}
 use Rattle.contents.specs.declared.Log.{Log}
 use Rattle.contents.specs.declared.Message.{Message}
 use Rattle.contents.proofs.Facts.{numbers-facts}
-use Rattle.contents.proofs.Tests.{both_true}
+use Rattle.contents.proofs.Tests.{both-true}
 use Rattle.formats.specs.Codes.{engineOf}
 use Rattle.formats.specs.Formats.{reading}
 use Rattle.formats.specs.Images.{imageFormat, imageBytes}
-use Rattle.formats.specs.Logs.{logFormat, noLog, read_log}
+use Rattle.formats.specs.Logs.{logFormat, noLog, readLog}
 use Rattle.formats.specs.Messages.{messageFormat, readMessage}
 use Rattle.formats.specs.InnerFormats.{stored}
 use Rattle.formats.specs.declared.EngineRead.{EngineRead}
@@ -46,7 +46,7 @@ neither false true e = never (sym e)
 -- numbers that fit the code's types
 pub record SettingsFit (engine n unit entry : ℕ) : Type 0 where
   pub small-engine : engine < 256 ^ 1
-  pub small_n : n < 256 ^ 1
+  pub small-n : n < 256 ^ 1
   pub small-unit : unit < 256 ^ 1
   pub small-entry : entry < 256 ^ 2
 
@@ -54,12 +54,12 @@ module _ (engine n unit entry : ℕ) where
   pub small : settingsNarrow engine n unit entry ≡ true → SettingsFit engine n unit entry
   unfolding settingsNarrow
   small h =
-      let a = both_true (ltb engine (256 ^ 1) && ltb n (256 ^ 1) && ltb unit (256 ^ 1)) (ltb entry (256 ^ 2)) h in
-      let b = both_true (ltb engine (256 ^ 1) && ltb n (256 ^ 1)) (ltb unit (256 ^ 1)) a.0 in
-      let c = both_true (ltb engine (256 ^ 1)) (ltb n (256 ^ 1)) b.0 in
+      let a = both-true (ltb engine (256 ^ 1) && ltb n (256 ^ 1) && ltb unit (256 ^ 1)) (ltb entry (256 ^ 2)) h in
+      let b = both-true (ltb engine (256 ^ 1) && ltb n (256 ^ 1)) (ltb unit (256 ^ 1)) a.0 in
+      let c = both-true (ltb engine (256 ^ 1)) (ltb n (256 ^ 1)) b.0 in
       record {
         small-engine = ltb-true _ _ c.0;
-        small_n = ltb-true _ _ c.1;
+        small-n = ltb-true _ _ c.1;
         small-unit = ltb-true _ _ b.1;
         small-entry = ltb-true _ _ a.1;
       }
@@ -89,13 +89,13 @@ module _ (engine n unit entry : ℕ) where
 -- ---- what is read
 
 module _ (l : Limits) (sane : Sane l) (bs : List ℕ) where
-  pub log-refused : (k : Refusal) → reading (number_of k) noLog ≡ read_log l bs → badLog l bs ≡ true
-  unfolding badLog read_log
-  log-refused k e = rw (← e, refused-number (logFormat l) (λ r. Unit) (log.lawful l sane) bs (number_of k) (sym e))
+  pub log-refused : (k : Refusal) → reading (numberOf k) noLog ≡ readLog l bs → badLog l bs ≡ true
+  unfolding badLog readLog
+  log-refused k e = rw (← e, refused-number (logFormat l) (λ r. Unit) (log.lawful l sane) bs (numberOf k) (sym e))
 
-  pub message-refused : (k : Refusal) → reading (number_of k) emptyMessage ≡ readMessage l bs → badMessage l bs ≡ true
+  pub message-refused : (k : Refusal) → reading (numberOf k) emptyMessage ≡ readMessage l bs → badMessage l bs ≡ true
   unfolding badMessage readMessage
-  message-refused k e = rw (← e, refused-number (messageFormat l) (λ m. Unit) (message.lawful l sane) bs (number_of k) (sym e))
+  message-refused k e = rw (← e, refused-number (messageFormat l) (λ m. Unit) (message.lawful l sane) bs (numberOf k) (sym e))
 
   -- a message that was read is well formed
   pub message-ok : (m : Message) → reading 0 m ≡ readMessage l bs → messageOk l m ≡ true

@@ -15,11 +15,11 @@ use Rattle.contents.specs.Estimates.{mileageOrBlank, mileageOrSplit, secondEstim
 use Rattle.contents.specs.Logs.{stateOk, logOk}
 use Rattle.contents.specs.Images.{every, cellOk, cellsOk, tallyOk, checksAllowed, imageOk, sameSettings, stateFits, fits}
 use Rattle.contents.specs.Messages.{firstOk, checkOk, secondOk, skipOk, kindOk, messageOk}
-use Rattle.formats.specs.Numbers.{num_at, bytes_of}
-use Rattle.formats.specs.Logs.{read_log}
+use Rattle.formats.specs.Numbers.{numAt, bytesOf}
+use Rattle.formats.specs.Logs.{readLog}
 use Rattle.formats.specs.Messages.{readMessage, cleared}
 use Rattle.formats.specs.Images.{readImage, imageBytes}
-use Rattle.consensus.specs.Conditions.{first_of}
+use Rattle.consensus.specs.Conditions.{firstOf}
 use Rattle.consensus.specs.Units.{atLog, downUnit}
 use Rattle.consensus.specs.Step.{says, logWrite, atRound, fresh, recovered, sendFirst, proposed, takeFirst, onFirst, isFull, takeSecond, countCheck, checksWith}
 use Rattle.consensus.specs.Step.{onCheck, nextProposal, close, countSecond, secondsWith, onSecond, onKind, skip, caughtUp, received}
@@ -168,14 +168,14 @@ abbrev sixR : List ℕ
 sixR = unitR 0 (mileage 6) blank
 
 -- messages to everyone: kind, sender, round, estimate, proposal
-abbrev in_b : ℕ → ℕ → ℕ → List ℕ → List ℕ → List ℕ
-in_b kind sender round e p = message kind B 3 sender 255 round e p
+abbrev inB : ℕ → ℕ → ℕ → List ℕ → List ℕ → List ℕ
+inB kind sender round e p = message kind B 3 sender 255 round e p
 
-abbrev in_r : ℕ → ℕ → List ℕ → List ℕ → List ℕ
-in_r kind sender e p = message kind R 4 sender 255 0 e p
+abbrev inR : ℕ → ℕ → List ℕ → List ℕ → List ℕ
+inR kind sender e p = message kind R 4 sender 255 0 e p
 
 abbrev first : List ℕ
-first = in_b F 1 0 (mileage 5) (mileage 5)
+first = inB F 1 0 (mileage 5) (mileage 5)
 
 -- a log with n = 2
 abbrev bad : List ℕ
@@ -183,7 +183,7 @@ bad = log B 2 0 0 blank blank blank
 
 -- the SECOND x of unit 2 after v and w of units 0 and 1, in R
 abbrev third : ℕ → ℕ → ℕ → UnitCall
-third v w x = deliver sixR (image sixR (tally 0 []) (tally 3 (mileage v ++ mileage w))) (in_r S 2 (mileage x) blank) (junk 18)
+third v w x = deliver sixR (image sixR (tally 0 []) (tally 3 (mileage v ++ mileage w))) (inR S 2 (mileage x) blank) (junk 18)
 
 -- round 9,999 in B, with a SECOND of unit 1
 abbrev ending : List ℕ
@@ -227,11 +227,11 @@ cases =
     ∷ gives (third 5 5 9) sixR (unitR 1 (mileage 5) blank) zeros none
     ∷ gives (third 5 9 2) sixR (unitR 1 blank blank) zeros none
     -- B, n = 3: CHECKs 5 and 9 give split; two splits keep the proposal
-    ∷ gives (deliver (sixB 0) (image (sixB 0) (tally 1 (mileage 5)) (tally 0 [])) (in_b C 1 0 (mileage 9) (mileage 9)) (junk 18))
-    (unitB 0 (mileage 6) blank split) (unitB 0 (mileage 6) blank split) (in_b S 0 0 split (mileage 6)) none
-    ∷ gives (deliver (sixB 0) (image (sixB 0) (tally 0 []) (tally 1 split)) (in_b S 1 0 split blank) (junk 18)) (sixB 0) (sixB 1) zeros none
+    ∷ gives (deliver (sixB 0) (image (sixB 0) (tally 1 (mileage 5)) (tally 0 [])) (inB C 1 0 (mileage 9) (mileage 9)) (junk 18))
+    (unitB 0 (mileage 6) blank split) (unitB 0 (mileage 6) blank split) (inB S 0 0 split (mileage 6)) none
+    ∷ gives (deliver (sixB 0) (image (sixB 0) (tally 0 []) (tally 1 split)) (inB S 1 0 split blank) (junk 18)) (sixB 0) (sixB 1) zeros none
     -- mileage 9,999,999 is accepted, with its FIRST, and 10,000,000 refused: 6
-    ∷ gives (proposeTo freshB 9999999) freshB (unitB 0 (mileage 9999999) blank blank) (in_b F 0 0 (mileage 9999999) (mileage 9999999)) none
+    ∷ gives (proposeTo freshB 9999999) freshB (unitB 0 (mileage 9999999) blank blank) (inB F 0 0 (mileage 9999999) (mileage 9999999)) none
     ∷ refused 6 zeros (proposeTo freshB 10000000)
     -- the table's examples, 1: message of 17 bytes; then every buffer of every call, too short or too long
     ∷ refused 1 zeros (deliverTo freshB (take 17 first))
@@ -281,24 +281,24 @@ cases =
     -- 4: kind letter Z; the empty message; F, C and S to a single unit; K to everyone, and to unit 3 of 3; K with an estimate; F and C with two
     -- mileages, F with blanks; C in R; S with a blank, and in R with a split estimate; S and K with a split proposal; sender 3 of 3, round
     -- 10,000, a zero byte that is 1
-    ∷ refused 4 zeros (toFresh (in_b Z 1 0 (mileage 5) (mileage 5)))
+    ∷ refused 4 zeros (toFresh (inB Z 1 0 (mileage 5) (mileage 5)))
     ∷ refused 4 zeros (toFresh zeros)
     ∷ refused 4 zeros (toFresh (toOne F 0 0 (mileage 5) (mileage 5)))
     ∷ refused 4 zeros (toFresh (toOne C 0 0 (mileage 5) (mileage 5)))
     ∷ refused 4 zeros (toFresh (toOne S 0 0 (mileage 5) blank))
     ∷ refused 4 zeros (toFresh (toOne K 255 4 blank blank))
     ∷ refused 4 zeros (toFresh (toOne K 0 4 (mileage 6) (mileage 6)))
-    ∷ refused 4 zeros (toFresh (in_b F 1 0 (mileage 5) (mileage 6)))
-    ∷ refused 4 zeros (toFresh (in_b C 1 0 (mileage 5) (mileage 6)))
+    ∷ refused 4 zeros (toFresh (inB F 1 0 (mileage 5) (mileage 6)))
+    ∷ refused 4 zeros (toFresh (inB C 1 0 (mileage 5) (mileage 6)))
     ∷ refused 4 zeros (toFresh (toOne K 3 4 blank blank))
-    ∷ refused 4 zeros (toFresh (in_b F 1 0 blank blank))
-    ∷ refused 4 zeros (deliverTo sixR (in_r C 1 (mileage 5) (mileage 5)))
-    ∷ refused 4 zeros (toFresh (in_b S 1 0 blank blank))
-    ∷ refused 4 zeros (deliverTo sixR (in_r S 1 split blank))
-    ∷ refused 4 zeros (toFresh (in_b S 1 0 (mileage 5) split))
+    ∷ refused 4 zeros (toFresh (inB F 1 0 blank blank))
+    ∷ refused 4 zeros (deliverTo sixR (inR C 1 (mileage 5) (mileage 5)))
+    ∷ refused 4 zeros (toFresh (inB S 1 0 blank blank))
+    ∷ refused 4 zeros (deliverTo sixR (inR S 1 split blank))
+    ∷ refused 4 zeros (toFresh (inB S 1 0 (mileage 5) split))
     ∷ refused 4 zeros (toFresh (toOne K 0 4 blank split))
-    ∷ refused 4 zeros (toFresh (in_b F 3 0 (mileage 5) (mileage 5)))
-    ∷ refused 4 zeros (toFresh (in_b F 1 10000 (mileage 5) (mileage 5)))
+    ∷ refused 4 zeros (toFresh (inB F 3 0 (mileage 5) (mileage 5)))
+    ∷ refused 4 zeros (toFresh (inB F 1 10000 (mileage 5) (mileage 5)))
     ∷ refused 4 zeros (toFresh (take 5 first ++ (1 ∷ drop 6 first)))
     -- 5: another engine, n and entry; K for unit 1, handed to 2
     ∷ refused 5 zeros (toFresh (message F R 3 1 255 0 (mileage 5) (mileage 5)))
@@ -306,8 +306,8 @@ cases =
     ∷ refused 5 zeros (toFresh (take 7 first ++ (8 ∷ drop 8 first)))
     ∷ refused 5 zeros (deliverTo (log B 3 2 0 blank blank blank) (message K B 3 0 1 4 blank blank))
     -- 7: n = 3, B, round 9,999, one SECOND there, another comes; the SECOND of the marked sender again is accepted
-    ∷ refused 7 zeros (deliver ending oneThere (in_b S 2 9999 (mileage 5) blank) (junk 18))
-    ∷ case (deliver ending oneThere (in_b S 1 9999 (mileage 5) blank) (junk 18)) 0 ending oneThere zeros none
+    ∷ refused 7 zeros (deliver ending oneThere (inB S 2 9999 (mileage 5) blank) (junk 18))
+    ∷ case (deliver ending oneThere (inB S 1 9999 (mileage 5) blank) (junk 18)) 0 ending oneThere zeros none
     -- starting a unit, of entries 7, 1 and 9,999; key-on
     ∷ gives (start R 4 0 7 (junk 20) (junk 152)) (unitR 0 blank blank) (unitR 0 blank blank) [] none
     ∷ gives (start B 3 0 1 (junk 20) (junk 152)) (ofEntry 1) (ofEntry 1) [] none
@@ -315,18 +315,18 @@ cases =
     ∷ gives (keyOn (unitB 4 (mileage 6) (mileage 5) split) (junk 152)) (unitB 4 (mileage 6) (mileage 5) split) (unitB 4 (mileage 6) (mileage 5) split) [] none
     -- FIRST in B and in R
     ∷ gives (deliverTo (sixB 0) first) (unitB 0 (mileage 6) (mileage 5) blank) (unitB 0 (mileage 6) (mileage 5) blank)
-    (in_b C 0 0 (mileage 5) (mileage 5)) none
-    ∷ gives (deliverTo sixR (in_r F 1 (mileage 5) (mileage 5))) (unitR 0 (mileage 6) (mileage 5)) (unitR 0 (mileage 6) (mileage 5))
-    (in_r S 0 (mileage 5) (mileage 6)) none
+    (inB C 0 0 (mileage 5) (mileage 5)) none
+    ∷ gives (deliverTo sixR (inR F 1 (mileage 5) (mileage 5))) (unitR 0 (mileage 6) (mileage 5)) (unitR 0 (mileage 6) (mileage 5))
+    (inR S 0 (mileage 5) (mileage 6)) none
     -- a message below the unit's round, and a SKIP above it
     ∷ gives (deliverTo (sixB 4) first) (sixB 4) (sixB 4) (message K B 3 0 1 4 blank (mileage 6)) none
     ∷ gives (deliverTo freshB (message K B 3 1 0 4 blank (mileage 6))) freshB (sixB 4) zeros none
     -- B, n = 3: one CHECK is marked; R, n = 4: SECONDs 5, 5, 5 are decided
-    ∷ case (deliverTo freshB (in_b C 2 0 (mileage 9) (mileage 9))) 0 freshB
+    ∷ case (deliverTo freshB (inB C 2 0 (mileage 9) (mileage 9))) 0 freshB
     (image freshB (tally 4 (blank ++ (blank ++ mileage 9))) (tally 0 [])) zeros none
     ∷ gives (third 5 5 5) sixR (unitR 1 (mileage 5) blank) zeros 5
     -- then unit 3, which gathered units 1, 2 and 3, takes 5 from 5, 5 and 9; if (n + 1) / 2 of them were wanted it would be blank, and 5 be lost
-    ∷ gives (deliver (unit3R 0 6) (image (unit3R 0 6) (tally 0 []) (tally 6 (blank ++ (mileage 5 ++ mileage 5)))) (in_r S 3 (mileage 9) blank) (junk 18))
+    ∷ gives (deliver (unit3R 0 6) (image (unit3R 0 6) (tally 0 []) (tally 6 (blank ++ (mileage 5 ++ mileage 5)))) (inR S 3 (mileage 9) blank) (junk 18))
     (unit3R 0 6) (unit3R 1 5) zeros none
     -- B, n = 5: SECONDs split of unit 0 and 9 of unit 2, then 5 of unit 1: the lowest sender's mileage is 5
     ∷ gives (deliver (ofFive 0 6) (image (ofFive 0 6) (tally 0 []) (tally 5 (split ++ (blank ++ mileage 9)))) (message S B 5 1 255 0 (mileage 5) blank)
@@ -334,15 +334,15 @@ cases =
     ∷ []
 
 -- lists that are the same have the same elements
-each_same : (cs : List Case) → map (λ c. outcome c.question) cs ≡ map (λ c. c.expected) cs → Each (λ c. outcome c.question ≡ c.expected) cs
-each_same [] e = tt
-each_same (c ∷ cs) e = (ap (λ (l : List Outcome). get_or l 0 c.expected) e, each_same cs (ap (drop 1) e))
+each-same : (cs : List Case) → map (λ c. outcome c.question) cs ≡ map (λ c. c.expected) cs → Each (λ c. outcome c.question ≡ c.expected) cs
+each-same [] e = tt
+each-same (c ∷ cs) e = (ap (λ (l : List Outcome). get_or l 0 c.expected) e, each-same cs (ap (drop 1) e))
 
-pub all_hold : Each (λ c. outcome c.question ≡ c.expected) cases
+pub all-hold : Each (λ c. outcome c.question ≡ c.expected) cases
 unfolding ones holders allHold common firstPassing lowest leads majority noMarks mark gatheredFrom gathered
     mileageOrBlank mileageOrSplit secondEstimateOk sameMileage stateOk logOk every cellOk cellsOk tallyOk checksAllowed imageOk sameSettings stateFits fits
-    firstOk checkOk secondOk skipOk kindOk messageOk num_at bytes_of read_log readMessage cleared readImage imageBytes first_of atLog downUnit says logWrite
+    firstOk checkOk secondOk skipOk kindOk messageOk numAt bytesOf readLog readMessage cleared readImage imageBytes firstOf atLog downUnit says logWrite
     atRound fresh recovered sendFirst proposed takeFirst onFirst isFull takeSecond countCheck checksWith onCheck nextProposal close countSecond
     secondsWith onSecond onKind skip caughtUp received forOther outOfRange closesLast unitLengths badLog badSettings badImage badMessage logBytes
     messageBytes startCallConditions startCall keyOnCallConditions keyOnCall proposeCallConditions proposeCall deliverCallConditions deliverCall
-all_hold = each_same cases refl
+all-hold = each-same cases refl

@@ -9,13 +9,13 @@ use lib.Dec.{eqb}
 use lib.ListN.{length, drop_of_length-le}
 use lib.Seq.{sets, sets-eq}
 use borrow.Author.Tests.{eq-eqb, ne_eqb, eqb-true, eqb-false}
-use Rattle.contents.proofs.Tests.{both_true}
-use Rattle.formats.specs.Formats.{ReadAnswer, reading, wrote, Format, withZero, checked, fromNumbers, readBytes, to_bytes, writeBytes}
+use Rattle.contents.proofs.Tests.{both-true}
+use Rattle.formats.specs.Formats.{ReadAnswer, reading, wrote, Format, withZero, checked, fromNumbers, readBytes, toBytes, writeBytes}
 use Rattle.formats.specs.Numbers.{Bytes, pack}
 use Rattle.formats.proofs.Packed.{Fit}
-use Rattle.tally.specs.Refusal.{number_of}
+use Rattle.tally.specs.Refusal.{numberOf}
 use Rattle.tally.specs.declared.Refusal.TheVariants.{Length}
-use Rattle.formats.proofs.RoundTrips.{LawfulFormat, from-numbers, numbers-back, read-numbers, read-written, written_read, refused-number}
+use Rattle.formats.proofs.RoundTrips.{LawfulFormat, from-numbers, numbers-back, read-numbers, read-written, written-read, refused-number}
 use Rattle.formats.specs.Logs.{logFormat}
 use Rattle.formats.specs.Messages.{messageFormat, cleared}
 use Rattle.formats.proofs.LogFormat as log
@@ -34,7 +34,7 @@ module _ {A : Type 0} (f : Format A) (law : LawfulFormat f (λ a. Unit)) where
   pub put-checked : (a : A) (kept bs : List ℕ) → length bs ≡ f.size → putChecked f (checked f (some a)) kept ≡ writeBytes f a kept bs
   put-checked a kept bs len = rw (eq-eqb (length bs) f.size len) (go (f.ok a))
     where
-      go : (t : Bool) → putChecked f (cond t (reading 0 a) (reading f.malformed f.nothing)) kept ≡ cond t (wrote 0 (to_bytes f a))
+      go : (t : Bool) → putChecked f (cond t (reading 0 a) (reading f.malformed f.nothing)) kept ≡ cond t (wrote 0 (toBytes f a))
           (wrote f.malformed kept)
       go true = refl
       go false = rw (ne_eqb f.malformed 0 law.refuses)
@@ -47,13 +47,13 @@ module _ {A : Type 0} (f : Format A) (law : LawfulFormat f (λ a. Unit)) where
   read-refused bs fs k len e = rw (eq-eqb (length fs) f.fields len, e, refused-number f (λ a. Unit) law bs k e)
 
   -- writing numbers that fit their bytes gives the number that reading these bytes would give
-  pub same_number : (fs kept bs : List ℕ) → length fs ≡ f.fields → length bs ≡ f.size → Fit f.widths (withZero f.zeroAt fs)
+  pub same-number : (fs kept bs : List ℕ) → length fs ≡ f.fields → length bs ≡ f.size → Fit f.widths (withZero f.zeroAt fs)
       → (writeCall f fs kept bs).number ≡ (readBytes f (pack f.widths (withZero f.zeroAt fs))).number
-  same_number fs kept bs len size fit =
+  same-number fs kept bs len size fit =
       rw (eq-eqb (length fs) f.fields len, eq-eqb (length bs) f.size size, read-numbers f (λ a. Unit) law fs len fit)
       (go (fromNumbers f fs) (eqb (fromNumbers f fs).number 0) refl)
     where
-      go : (r : ReadAnswer A) (t : Bool) → eqb r.number 0 ≡ t → (cond t (wrote 0 (to_bytes f r.contents)) (wrote r.number kept)).number ≡ r.number
+      go : (r : ReadAnswer A) (t : Bool) → eqb r.number 0 ≡ t → (cond t (wrote 0 (toBytes f r.contents)) (wrote r.number kept)).number ≡ r.number
       go r true e = sym (eqb-true r.number 0 e)
       go r false e = refl
 
@@ -72,16 +72,16 @@ module _ {A : Type 0} (f : Format A) (law : LawfulFormat f (λ a. Unit)) where
           r = fromNumbers f fs
 
           go : (t : Bool) → (eqb (length fs) f.fields && eqb (length bs) f.size) ≡ t → (cond t (putChecked f r (kept bs))
-              (wrote (number_of Length) (kept bs))).number ≡ 0
-              → readCall f (cond t (putChecked f r (kept bs)) (wrote (number_of Length) (kept bs))).out out ≡ wrote 0 fs
+              (wrote (numberOf Length) (kept bs))).number ≡ 0
+              → readCall f (cond t (putChecked f r (kept bs)) (wrote (numberOf Length) (kept bs))).out out ≡ wrote 0 fs
           go false l e = absurd (omega arith)
           go true l e = by (eqb r.number 0) refl e
             where
-              by : (t : Bool) → eqb r.number 0 ≡ t → (cond t (wrote 0 (to_bytes f r.contents)) (wrote r.number (kept bs))).number ≡ 0
-                  → readCall f (cond t (wrote 0 (to_bytes f r.contents)) (wrote r.number (kept bs))).out out ≡ wrote 0 fs
+              by : (t : Bool) → eqb r.number 0 ≡ t → (cond t (wrote 0 (toBytes f r.contents)) (wrote r.number (kept bs))).number ≡ 0
+                  → readCall f (cond t (wrote 0 (toBytes f r.contents)) (wrote r.number (kept bs))).out out ≡ wrote 0 fs
               by false n e = absurd (eqb-false r.number 0 n e)
               by true n e =
-                  let many = eqb-true (length fs) f.fields (both_true (eqb (length fs) f.fields) (eqb (length bs) f.size) l).0 in
+                  let many = eqb-true (length fs) f.fields (both-true (eqb (length fs) f.fields) (eqb (length bs) f.size) l).0 in
                   let g = numbers-back f (λ a. Unit) law fs r.contents many (accepted r n) in
                   rw (eq-eqb (length out) f.fields len, read-written f (λ a. Unit) law r.contents tt g.0) (ap (wrote 0) g.1)
 
@@ -92,8 +92,8 @@ module _ {A : Type 0} (f : Format A) (law : LawfulFormat f (λ a. Unit)) where
           r : ReadAnswer A
           r = readBytes f bs
 
-          go : (t : Bool) → (cond t (putNumbers f r fs) (wrote (number_of Length) fs)).number ≡ 0
-              → writeCall f (cond t (putNumbers f r fs) (wrote (number_of Length) fs)).out (kept out) out ≡ wrote 0 bs
+          go : (t : Bool) → (cond t (putNumbers f r fs) (wrote (numberOf Length) fs)).number ≡ 0
+              → writeCall f (cond t (putNumbers f r fs) (wrote (numberOf Length) fs)).out (kept out) out ≡ wrote 0 bs
           go false e = absurd (omega arith)
           go true e = by (eqb r.number 0) refl e
             where
@@ -101,7 +101,7 @@ module _ {A : Type 0} (f : Format A) (law : LawfulFormat f (λ a. Unit)) where
                   → writeCall f (cond t (wrote 0 (f.numbers r.contents)) (wrote r.number fs)).out (kept out) out ≡ wrote 0 bs
               by false n e = absurd (eqb-false r.number 0 n e)
               by true n e =
-                  let g = written_read f (λ a. Unit) law bs r.contents b (accepted r n) in
+                  let g = written-read f (λ a. Unit) law bs r.contents b (accepted r n) in
                   rw (
                     eq-eqb (length (f.numbers r.contents)) f.fields (law.each r.contents tt),
                     eq-eqb (length out) f.size len,

@@ -15,7 +15,7 @@ use Rattle.tally.specs.Limits.{Limits}
 use Rattle.formats.specs.Logs.{logFormat}
 use Rattle.formats.specs.Messages.{messageFormat}
 use Rattle.formats.proofs.RoundTrips.{LawfulFormat, without-zero}
-use Rattle.formats.proofs.Packed.{Fit, fit_append}
+use Rattle.formats.proofs.Packed.{Fit, fit-append}
 use Rattle.calls.specs.InnerFields.{narrow, headWidths, logHead, logNarrow, messageHead, messageNarrow}
 
 -- each number from place o on fits its width
@@ -27,7 +27,7 @@ small : (ok : Bool) (o : ℕ) (ws vs : List ℕ) → narrow ok o ws vs ≡ true 
 small ok o [] vs h = (h, tt)
 small ok o (w ∷ ws) vs h =
     let r = small (ok && ltb (get_or vs o 0) (256 ^ w)) (suc o) ws vs h in
-    let a = tests.both_true ok (ltb (get_or vs o 0) (256 ^ w)) r.0 in
+    let a = tests.both-true ok (ltb (get_or vs o 0) (256 ^ w)) r.0 in
     (a.0, (ltb-true _ _ a.1, r.1))
 
 pub log-small : (l : Limits) (vs : List ℕ) → logNarrow l vs ≡ true → Small 0 (headWidths (logFormat l) logHead) vs
@@ -64,9 +64,9 @@ fit-drop (suc k) (w ∷ ws) [] h = absurd h
 fit-drop (suc k) (w ∷ ws) (v ∷ vs) h = fit-drop k ws vs h.1
 
 -- numbers of which one is too large for its bytes are refused
-pub too_large : {A : Type 0} (f : Format A) (law : LawfulFormat f (λ a. Unit)) (vs : List ℕ) (k : ℕ) → length vs ≡ f.fields
+pub too-large : {A : Type 0} (f : Format A) (law : LawfulFormat f (λ a. Unit)) (vs : List ℕ) (k : ℕ) → length vs ≡ f.fields
     → narrow true 0 (headWidths f k) vs ≡ false → fromNumbers f vs ≡ reading f.malformed f.nothing
-too_large f law vs k len wide = go (f.parse vs) refl
+too-large f law vs k len wide = go (f.parse vs) refl
   where
     z : ℕ
     z = f.zeroAt
@@ -75,7 +75,7 @@ too_large f law vs k len wide = go (f.parse vs) refl
     fits h =
         let below : z ≤ length vs = omega (arith, law.counted, law.placed) in
         let condition : Fit (without z f.widths) (without z (withZero z vs)) =
-        fit_append (take z f.widths) (drop (suc z) f.widths) (take z (withZero z vs)) (drop (suc z) (withZero z vs))
+        fit-append (take z f.widths) (drop (suc z) f.widths) (take z (withZero z vs)) (drop (suc z) (withZero z vs))
         (fit-take z f.widths (withZero z vs) h)
         (fit-drop (suc z) f.widths (withZero z vs) h) in
         false≢true (sym wide ∙ fit-narrow true (without z f.widths) vs [] 0 k refl (rw (without-zero z vs below) at condition))

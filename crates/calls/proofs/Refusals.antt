@@ -7,9 +7,9 @@ use native.Mathlib.Omega.{arith}
 use lib.Dec.{eqb}
 use borrow.Author.Tests.{eqb-true}
 use Rattle.tally.specs.Limits.{Limits, blankCode}
-use Rattle.tally.specs.Refusal.{number_of}
+use Rattle.tally.specs.Refusal.{numberOf}
 use Rattle.formats.specs.Messages.{cleared}
-use Rattle.consensus.specs.Conditions.{Condition, first_of}
+use Rattle.consensus.specs.Conditions.{Condition, firstOf}
 use Rattle.consensus.proofs.Order.{Rising, first-lowest}
 use Rattle.calls.specs.Calls.{CallAnswer, called, unlessRefused, Refusing, startCallConditions, startCall, keyOnCallConditions, keyOnCall}
 use Rattle.calls.specs.Calls.{proposeCallConditions, proposeCall, deliverCallConditions, deliverCall}
@@ -17,10 +17,10 @@ use Rattle.calls.specs.Calls.{proposeCallConditions, proposeCall, deliverCallCon
 module _ (l : Limits) (cs : List Condition) (up : Rising 0 cs) (log image out : List ℕ) where
   -- any call that answers 0 where no condition holds
   refusing : (ok : CallAnswer) → ok.number ≡ 0 → Refusing l cs log image out (unlessRefused l cs log image out ok)
-  refusing ok zero = go (eqb (number_of (first_of cs)) 0) refl
+  refusing ok zero = go (eqb (numberOf (firstOf cs)) 0) refl
     where
       k : ℕ
-      k = number_of (first_of cs)
+      k = numberOf (firstOf cs)
 
       go : (b : Bool) → eqb k 0 ≡ b → Refusing l cs log image out (cond b ok (called k log image (cleared l out) blankCode))
       go true e = record { number = rw (zero ∙ sym (eqb-true k 0 e)) (first-lowest cs up); refused = λ n. absurd (n zero) }

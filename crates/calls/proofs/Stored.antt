@@ -8,19 +8,19 @@ use lib.Dec.{eqb}
 use lib.ListN.{length, length-replicate}
 use borrow.Author.Tests.{eq-eqb}
 use Rattle.tally.specs.Limits.{today, blankCode, imageSize, messageSize}
-use Rattle.tally.specs.Refusal.{number_of}
+use Rattle.tally.specs.Refusal.{numberOf}
 use Rattle.tally.specs.declared.Refusal.{Refusal}
 use Rattle.tally.specs.declared.Tally.{Tally}
 use Rattle.tally.proofs.Bounds.{sane-today}
 use Rattle.tally.proofs.Never.{never}
-use Rattle.contents.specs.Estimates.{is_b}
-use Rattle.contents.specs.Messages.{is_empty}
+use Rattle.contents.specs.Estimates.{isB}
+use Rattle.contents.specs.Messages.{isEmpty}
 use Rattle.contents.specs.declared.Kind.{Kind}
 use Rattle.contents.specs.declared.Kind.TheVariants.{Empty, First, Check, Second, Skip}
 use Rattle.contents.specs.declared.Message.{Message}
 use Rattle.contents.specs.declared.Settings.{Settings}
-use Rattle.contents.proofs.Facts.{image-facts, log_facts}
-use Rattle.formats.specs.Codes.{code_of}
+use Rattle.contents.proofs.Facts.{image-facts, log-facts}
+use Rattle.formats.specs.Codes.{codeOf}
 use Rattle.formats.specs.Images.{imageBytes, withTallies}
 use Rattle.formats.specs.InnerImages.{asMarked, stateOver, imageOver, inImage}
 use Rattle.formats.specs.Logs.{logFormat}
@@ -53,7 +53,7 @@ module _ (u : U.Unit) (w : WellFormed today u) where
 
   all-seconds : asMarked u.seconds ≡ u.seconds
   all-seconds =
-      as-marked today (is_b u.settings.engine) _ _ u.seconds (image-facts today (unitImage u) w.image).seconds w.seconds
+      as-marked today (isB u.settings.engine) _ _ u.seconds (image-facts today (unitImage u) w.image).seconds w.seconds
 
 -- ---- what is written
 
@@ -72,7 +72,7 @@ module _ (log image : List ℕ) (u : U.Unit) (h : Held log image u) where
   over v x settings kept =
       rw (eq-eqb _ _ image-length, h.image-bytes)
       (image-over (unitImage u) v.current v.checks v.seconds (w.checks, w.seconds) x.checks x.seconds
-      (omega (arith, (log_facts today _ (image-facts today (unitImage u) w.image).log).state.round))
+      (omega (arith, (log-facts today _ (image-facts today (unitImage u) w.image).log).state.round))
       (λ r e. same-marked u.checks v.checks e ((kept r).0 e) ∙ all-checks u w)
       (λ r e. same-marked u.seconds v.seconds e ((kept r).1 e) ∙ all-seconds u w)
       ∙ ap₂ (λ (c d : Tally). imageBytes today (withTallies (record { settings = u.settings; state = v.current }) c d))
@@ -87,7 +87,7 @@ module _ (log image : List ℕ) (u : U.Unit) (h : Held log image u) where
         size : length out ≡ messageSize today
         size = ap length empty ∙ length-replicate {A = ℕ} (messageSize today) 0
 
-        go : (k : Kind) → cond (is_empty k) out (stored (messageFormat today) m out) ≡ messageBytes today k m
+        go : (k : Kind) → cond (isEmpty k) out (stored (messageFormat today) m out) ≡ messageBytes today k m
         go Empty = empty
         go First = stored-contents (messageFormat today) out m size
         go Check = stored-contents (messageFormat today) out m size
@@ -95,18 +95,18 @@ module _ (log image : List ℕ) (u : U.Unit) (h : Held log image u) where
         go Skip = stored-contents (messageFormat today) out m size
 
     -- a refusal stores nothing, and the answer is the unit's own
-    refused-there : (cs : List Condition) (a : Answer) → a.refusal ≡ Refusal.None → eqb (number_of (unless cs u a).refusal) 0 ≡ false
-        → called (number_of (unless cs u a).refusal) log image out blankCode ≡ answered today (unless cs u a)
+    refused-there : (cs : List Condition) (a : Answer) → a.refusal ≡ Refusal.None → eqb (numberOf (unless cs u a).refusal) 0 ≡ false
+        → called (numberOf (unless cs u a).refusal) log image out blankCode ≡ answered today (unless cs u a)
     unfolding messageBytes
     refused-there cs a none =
-        by-unless (λ a. eqb (number_of a.refusal) 0 ≡ false → called (number_of a.refusal) log image out blankCode ≡ answered today a) cs u a
-        (λ e. never (sym e ∙ ap (λ k. eqb (number_of k) 0) none)) (λ k e. rw (h.log-bytes, h.image-bytes, empty))
+        by-unless (λ a. eqb (numberOf a.refusal) 0 ≡ false → called (numberOf a.refusal) log image out blankCode ≡ answered today a) cs u a
+        (λ e. never (sym e ∙ ap (λ k. eqb (numberOf k) 0) none)) (λ k e. rw (h.log-bytes, h.image-bytes, empty))
 
     -- ---- a delivery
 
     pub answer-stored : (m : Message) → storedAnswer (deliver today u m) log image out blankCode ≡ answered today (deliver today u m)
     unfolding storedAnswer deliver w
-    answer-stored m = go (eqb (number_of a.refusal) 0) refl
+    answer-stored m = go (eqb (numberOf a.refusal) 0) refl
       where
         a : Answer
         a = deliver today u m
@@ -114,10 +114,10 @@ module _ (log image : List ℕ) (u : U.Unit) (h : Held log image u) where
         kept : TalliesStay u a.unit
         kept = by-unless (λ a. TalliesStay u a.unit) (deliverConditions today u m) u (received u m) (tallies-stay u m) (λ k. tallies-same u)
 
-        go : (b : Bool) → eqb (number_of a.refusal) 0 ≡ b
-            → cond b (called (number_of a.refusal) (stored (logFormat today) (unitLog a.unit) log)
-            (inImage (imageOver a.unit.current a.unit.checks a.unit.seconds) image) (storedMessage a.message out) (code_of a.decision))
-            (called (number_of a.refusal) log image out blankCode) ≡ answered today a
+        go : (b : Bool) → eqb (numberOf a.refusal) 0 ≡ b
+            → cond b (called (numberOf a.refusal) (stored (logFormat today) (unitLog a.unit) log)
+            (inImage (imageOver a.unit.current a.unit.checks a.unit.seconds) image) (storedMessage a.message out) (codeOf a.decision))
+            (called (numberOf a.refusal) log image out blankCode) ≡ answered today a
         go false e = refused-there (deliverConditions today u m) (received u m) (plain-received u m).none e
         go true e =
             let s = sound-deliver today u m w in
@@ -129,7 +129,7 @@ module _ (log image : List ℕ) (u : U.Unit) (h : Held log image u) where
     pub proposal-stored : (v : ℕ) (c : CallAnswer) → c ≡ storedProposal (propose today u v) image out
         → called c.number log c.image c.out blankCode ≡ answered today (propose today u v)
     unfolding storedProposal inImage propose
-    proposal-stored v c stored = rw stored (go (eqb (number_of a.refusal) 0) refl)
+    proposal-stored v c stored = rw stored (go (eqb (numberOf a.refusal) 0) refl)
       where
         a : Answer
         a = propose today u v
@@ -137,10 +137,10 @@ module _ (log image : List ℕ) (u : U.Unit) (h : Held log image u) where
         in-log : CallAnswer → CallAnswer
         in-log c = called c.number log c.image c.out blankCode
 
-        go : (b : Bool) → eqb (number_of a.refusal) 0 ≡ b
+        go : (b : Bool) → eqb (numberOf a.refusal) 0 ≡ b
             → in-log (cond b
-            (called (number_of a.refusal) [] (inImage (stateOver a.unit.current) image) (storedMessage a.message out) blankCode)
-            (called (number_of a.refusal) [] image out blankCode)) ≡ answered today a
+            (called (numberOf a.refusal) [] (inImage (stateOver a.unit.current) image) (storedMessage a.message out) blankCode)
+            (called (numberOf a.refusal) [] image out blankCode)) ≡ answered today a
         go false e = refused-there (proposeConditions today u v) (proposed u v) (plain-proposed u v).none e
         go true e =
             rw (

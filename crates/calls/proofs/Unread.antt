@@ -6,9 +6,9 @@ use mathlib.Core.List.{List, [], ◌∷◌}
 use native.Mathlib.Omega.{arith}
 use lib.ListN.{length}
 use Rattle.tally.specs.Limits.{Limits}
-use Rattle.tally.specs.Refusal.{number_of}
+use Rattle.tally.specs.Refusal.{numberOf}
 use Rattle.tally.specs.declared.Refusal.{Refusal}
-use Rattle.consensus.specs.Conditions.{condition, first_of}
+use Rattle.consensus.specs.Conditions.{condition, firstOf}
 use Rattle.calls.specs.Calls.{CallAnswer, unlessRefused, unitLengths, badLog, badSettings, startCallConditions, startCall, keyOnCallConditions, keyOnCall}
 use Rattle.formats.specs.Codes.{engineOf}
 
@@ -18,7 +18,7 @@ module _ (l : Limits) where
       → (unlessRefused l (condition Refusal.Length a ∷ condition Refusal.Log b ∷ []) log image [] ok).number ≡ 0
       → unlessRefused l (condition Refusal.Length a ∷ condition Refusal.Log b ∷ []) log image [] ok
       ≡ unlessRefused l (condition Refusal.Length a ∷ condition Refusal.Log b ∷ []) log2 image2 [] ok
-  unfolding first_of
+  unfolding firstOf
   same true b ok log image log2 image2 h = absurd (omega (arith, h))
   same false true ok log image log2 image2 h = absurd (omega (arith, h))
   same false false ok log image log2 image2 h = refl
@@ -44,12 +44,12 @@ module _ (l : Limits) where
       rw (← lengths log image log image2 refl b) (same (unitLengths l log image) (badLog l log) _ log image log image2 h)
 
   never-3 : (a b : Bool) (ok : CallAnswer) (log image : List ℕ) → ok.number ≡ 0
-      → (unlessRefused l (condition Refusal.Length a ∷ condition Refusal.Log b ∷ []) log image [] ok).number ≡ number_of Refusal.Image → ⊥
-  unfolding first_of
+      → (unlessRefused l (condition Refusal.Length a ∷ condition Refusal.Log b ∷ []) log image [] ok).number ≡ numberOf Refusal.Image → ⊥
+  unfolding firstOf
   never-3 true b ok log image zero h = omega (arith, h)
   never-3 false true ok log image zero h = omega (arith, h)
   never-3 false false ok log image zero h = omega (arith, h, zero)
 
-  pub key-on-never-3 : (log image : List ℕ) → (keyOnCall l log image).number ≡ number_of Refusal.Image → ⊥
+  pub key-on-never-3 : (log image : List ℕ) → (keyOnCall l log image).number ≡ numberOf Refusal.Image → ⊥
   unfolding keyOnCall keyOnCallConditions
   key-on-never-3 log image h = never-3 (unitLengths l log image) (badLog l log) _ log image refl h

@@ -1,7 +1,7 @@
 -- The four calls of a unit over bytes: the conditions that refuse, in order, and else the step. Assumes nothing.
 use Rattle.std.specs.Prelude.{ℕ, Bool, true, not, cond, ◌&&◌, ◌||◌, List, [], ◌∷◌, ◌≡◌, eqb, length}
 use Rattle.tally.specs.Limits.{Limits, blankCode, logSize, imageSize, messageSize}
-use Rattle.tally.specs.Refusal.{number_of}
+use Rattle.tally.specs.Refusal.{numberOf}
 use Rattle.tally.specs.declared.Engine.TheVariants.{B}
 use Rattle.tally.specs.declared.Refusal.{Refusal}
 use Rattle.contents.specs.Images.{fits}
@@ -11,15 +11,15 @@ use Rattle.contents.specs.declared.Kind.TheVariants.{Empty, First, Check, Second
 use Rattle.contents.specs.declared.Log.{Log}
 use Rattle.contents.specs.declared.Message.{Message}
 use Rattle.contents.specs.declared.Settings.{Settings}
-use Rattle.formats.specs.Codes.{engineOf, code_of}
-use Rattle.formats.specs.Formats.{ReadAnswer, to_bytes}
+use Rattle.formats.specs.Codes.{engineOf, codeOf}
+use Rattle.formats.specs.Formats.{ReadAnswer, toBytes}
 use Rattle.formats.specs.Images.{readImage, imageBytes}
-use Rattle.formats.specs.Logs.{logFormat, read_log}
+use Rattle.formats.specs.Logs.{logFormat, readLog}
 use Rattle.formats.specs.Messages.{messageFormat, readMessage, emptyBytes, cleared}
 use Rattle.formats.specs.declared.EngineRead.{EngineRead}
 use Rattle.formats.specs.declared.EngineRead.TheVariants.{Is, Unknown}
 use Rattle.consensus.specs.Methods.{forOther, outOfRange, closesLast}
-use Rattle.consensus.specs.Conditions.{Condition, condition, first_of, LowestNumber}
+use Rattle.consensus.specs.Conditions.{Condition, condition, firstOf, LowestNumber}
 use Rattle.consensus.specs.Step.{fresh, recovered, proposed, received}
 use Rattle.consensus.specs.Units.{unitLog, unitImage, upUnit, downUnit}
 use Rattle.consensus.specs.declared.Answer.{Answer}
@@ -40,7 +40,7 @@ called k log image out d = record { number = k; log = log; image = image; out = 
 -- one of another length keeps its bytes, and no decision is given; where no condition holds, the answer
 abbrev pub unlessRefused : Limits → List Condition → List ℕ → List ℕ → List ℕ → CallAnswer → CallAnswer
 unlessRefused l conditions log image out ok =
-    cond (eqb (number_of (first_of conditions)) 0) ok (called (number_of (first_of conditions)) log image (cleared l out) blankCode)
+    cond (eqb (numberOf (firstOf conditions)) 0) ok (called (numberOf (firstOf conditions)) log image (cleared l out) blankCode)
 
 -- ---- the table's conditions
 
@@ -58,7 +58,7 @@ unread r = not (eqb r.number 0)
 
 -- 2: log malformed
 unfoldable pub badLog : Limits → List ℕ → Bool
-badLog l log = unread (read_log l log)
+badLog l log = unread (readLog l log)
 
 -- 2: fresh-unit settings out of range; an unknown engine letter counts as such
 unfoldable pub badSettings : EngineRead → ℕ → ℕ → ℕ → Bool
@@ -67,7 +67,7 @@ badSettings (Is g) n unit entry = not (numbersOk n unit entry)
 
 -- 3: image malformed or not fitting
 unfoldable pub badImage : Limits → List ℕ → List ℕ → Bool
-badImage l log image = not (eqb (readImage l image).number 0 && fits (readImage l image).contents (read_log l log).contents)
+badImage l log image = not (eqb (readImage l image).number 0 && fits (readImage l image).contents (readLog l log).contents)
 
 -- 4: message malformed
 unfoldable pub badMessage : Limits → List ℕ → Bool
@@ -76,25 +76,25 @@ badMessage l message = unread (readMessage l message)
 -- ---- the bytes that a call writes
 
 unfoldable pub logBytes : Limits → Log → List ℕ
-logBytes l r = to_bytes (logFormat l) r
+logBytes l r = toBytes (logFormat l) r
 
 -- an empty message is zeros
 unfoldable pub messageBytes : Limits → Kind → Message → List ℕ
 messageBytes l Empty m = emptyBytes l
-messageBytes l First m = to_bytes (messageFormat l) m
-messageBytes l Check m = to_bytes (messageFormat l) m
-messageBytes l Second m = to_bytes (messageFormat l) m
-messageBytes l Skip m = to_bytes (messageFormat l) m
+messageBytes l First m = toBytes (messageFormat l) m
+messageBytes l Check m = toBytes (messageFormat l) m
+messageBytes l Second m = toBytes (messageFormat l) m
+messageBytes l Skip m = toBytes (messageFormat l) m
 
 -- an answer as bytes, where the buffers' lengths are right
 abbrev pub answered : Limits → Answer → CallAnswer
 answered l a =
-    called (number_of a.refusal) (logBytes l (unitLog a.unit)) (imageBytes l (unitImage a.unit)) (messageBytes l a.message.kind a.message)
-    (code_of a.decision)
+    called (numberOf a.refusal) (logBytes l (unitLog a.unit)) (imageBytes l (unitImage a.unit)) (messageBytes l a.message.kind a.message)
+    (codeOf a.decision)
 
 -- the up unit that a log and an image hold
-abbrev pub unit_of : Limits → List ℕ → List ℕ → U.Unit
-unit_of l log image = upUnit (read_log l log).contents (readImage l image).contents
+abbrev pub unitOf : Limits → List ℕ → List ℕ → U.Unit
+unitOf l log image = upUnit (readLog l log).contents (readImage l image).contents
 
 -- ---- the calls
 
@@ -127,7 +127,7 @@ keyOnCallConditions l log image =
 unfoldable pub keyOnCall : Limits → List ℕ → List ℕ → CallAnswer
 keyOnCall l log image =
     unlessRefused l (keyOnCallConditions l log image) log image []
-    (called 0 log (imageBytes l (unitImage (recovered (downUnit (read_log l log).contents)))) [] blankCode)
+    (called 0 log (imageBytes l (unitImage (recovered (downUnit (readLog l log).contents)))) [] blankCode)
 
 -- 1, 2, 3 and 6
 unfoldable pub proposeCallConditions : Limits → List ℕ → List ℕ → ℕ → List ℕ → List Condition
@@ -142,7 +142,7 @@ proposeCallConditions l log image mileage out =
 unfoldable pub proposeCall : Limits → List ℕ → List ℕ → ℕ → List ℕ → CallAnswer
 proposeCall l log image mileage out =
     unlessRefused l (proposeCallConditions l log image mileage out) log image out
-    (let a = proposed (unit_of l log image) mileage in
+    (let a = proposed (unitOf l log image) mileage in
     called 0 log (imageBytes l (unitImage a.unit)) (messageBytes l a.message.kind a.message) blankCode)
 
 -- 1, 2, 3, 4, 5 and 7
@@ -152,16 +152,16 @@ deliverCallConditions l log image message out =
     ∷ condition Refusal.Log (badLog l log)
     ∷ condition Refusal.Image (badImage l log image)
     ∷ condition Refusal.Message (badMessage l message)
-    ∷ condition Refusal.Addressee (forOther (read_log l log).contents.settings (readMessage l message).contents)
-    ∷ condition Refusal.LastRound (closesLast l (unit_of l log image) (readMessage l message).contents)
+    ∷ condition Refusal.Addressee (forOther (readLog l log).contents.settings (readMessage l message).contents)
+    ∷ condition Refusal.LastRound (closesLast l (unitOf l log image) (readMessage l message).contents)
     ∷ []
 
 -- the log is written too, as the step gives it
 unfoldable pub deliverCall : Limits → List ℕ → List ℕ → List ℕ → List ℕ → CallAnswer
 deliverCall l log image message out =
     unlessRefused l (deliverCallConditions l log image message out) log image out
-    (let a = received (unit_of l log image) (readMessage l message).contents in
-    called 0 (logBytes l (unitLog a.unit)) (imageBytes l (unitImage a.unit)) (messageBytes l a.message.kind a.message) (code_of a.decision))
+    (let a = received (unitOf l log image) (readMessage l message).contents in
+    called 0 (logBytes l (unitLog a.unit)) (imageBytes l (unitImage a.unit)) (messageBytes l a.message.kind a.message) (codeOf a.decision))
 
 -- the number is 0 exactly where no condition holds, and else the lowest of one that does; after a refusal log and image keep their
 -- bytes, an output buffer of a message's length is zeros, one of another length keeps its bytes, and the decision is blank

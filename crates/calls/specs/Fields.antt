@@ -1,9 +1,9 @@
 -- Logs and messages between plain numbers and bytes: what the four calls of fields answer. Assumes nothing.
 use Rattle.std.specs.Prelude.{ℕ, cond, ◌&&◌, List, ◌≡◌, eqb, length}
 use Rattle.tally.specs.Limits.{Limits}
-use Rattle.tally.specs.Refusal.{number_of}
+use Rattle.tally.specs.Refusal.{numberOf}
 use Rattle.tally.specs.declared.Refusal.TheVariants.{Length}
-use Rattle.formats.specs.Formats.{ReadAnswer, WriteAnswer, wrote, Format, fromNumbers, readBytes, to_bytes}
+use Rattle.formats.specs.Formats.{ReadAnswer, WriteAnswer, wrote, Format, fromNumbers, readBytes, toBytes}
 use Rattle.formats.specs.Logs.{logFormat}
 use Rattle.formats.specs.Messages.{messageFormat, cleared}
 use Rattle.formats.specs.Numbers.{Bytes}
@@ -14,16 +14,16 @@ putNumbers f r fs = cond (eqb r.number 0) (wrote 0 (f.numbers r.contents)) (wrot
 
 -- the bytes of what was read, or what is left after a refusal
 abbrev pub putChecked : {A : Type 0} → Format A → ReadAnswer A → List ℕ → WriteAnswer
-putChecked f r left = cond (eqb r.number 0) (wrote 0 (to_bytes f r.contents)) (wrote r.number left)
+putChecked f r left = cond (eqb r.number 0) (wrote 0 (toBytes f r.contents)) (wrote r.number left)
 
 -- reading bytes into fields: 1 where a length is wrong
 abbrev pub readCall : {A : Type 0} → Format A → List ℕ → List ℕ → WriteAnswer
-readCall f bs fs = cond (eqb (length fs) f.fields) (putNumbers f (readBytes f bs) fs) (wrote (number_of Length) fs)
+readCall f bs fs = cond (eqb (length fs) f.fields) (putNumbers f (readBytes f bs) fs) (wrote (numberOf Length) fs)
 
 -- writing fields as bytes: 1 where a length is wrong
 abbrev pub writeCall : {A : Type 0} → Format A → List ℕ → List ℕ → List ℕ → WriteAnswer
 writeCall f fs left bs =
-    cond (eqb (length fs) f.fields && eqb (length bs) f.size) (putChecked f (fromNumbers f fs) left) (wrote (number_of Length) left)
+    cond (eqb (length fs) f.fields && eqb (length bs) f.size) (putChecked f (fromNumbers f fs) left) (wrote (numberOf Length) left)
 
 unfoldable pub readLogCall : Limits → List ℕ → List ℕ → WriteAnswer
 readLogCall l bs fs = readCall (logFormat l) bs fs

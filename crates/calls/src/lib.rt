@@ -1,1 +1,2 @@
 // No code: what the calls over bytes answer, and the laws about it.
+#![tactic(auto)]

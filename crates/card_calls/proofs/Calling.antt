@@ -1,4 +1,4 @@
--- The steps that the walks by hand of `on_row` and of `mileage`'s card calls share: a call whose `ensures` is a fact, an argument that is read, a result that
+-- The steps that the walks by hand of `on-row` and of `mileage`'s card calls share: a call whose `ensures` is a fact, an argument that is read, a result that
 -- is stored, a local that is freed, and the way from a walk to the function's statement. Assumes nothing.
 use mathlib.Core.Path.{◌≡◌, refl, sym, subst}
 use Prim.Native.Nat.{ℕ, suc, zero, ◌<◌, ◌^◌}

@@ -1,8 +1,8 @@
 // What the calls on a card ask of a row, from numbers and buffers, and how they store what is told.
 ghost use Rattle.std.specs.Prelude.{◌≡◌};
 ghost use Rattle.tally.specs.Limits.{today};
-ghost use Rattle.tally.specs.Refusal.{number_of};
-ghost use Rattle.formats.specs.Codes.{code_of};
+ghost use Rattle.tally.specs.Refusal.{numberOf};
+ghost use Rattle.formats.specs.Codes.{codeOf};
 ghost use Rattle.cards.specs.InnerSteps.{cardCall, proposeAsks, deliverAsks, putMessage};
 
 use cards::{Act, CardCall, Told, UnitStep};
@@ -74,7 +74,7 @@ fn put_message(m: Message, out: &mut [u8])
 }
 
 pub fn number_of(t: Told) -> u32
-    ensures { result ≡ number_of t.refusal }
+    ensures { result ≡ numberOf t.refusal }
 {
     let refusal = t.refusal;
     tally::number(refusal)
@@ -82,7 +82,7 @@ pub fn number_of(t: Told) -> u32
 
 // The message goes into the output buffer.
 pub fn tell_message(t: Told, out: &mut [u8]) -> u32
-    ensures { (result ≡ number_of t.refusal) × (out.new ≡ putMessage today t.message out.old) }
+    ensures { (result ≡ numberOf t.refusal) × (out.new ≡ putMessage today t.message out.old) }
 {
     put_message(t.message, out);
     number_of(t)
@@ -90,8 +90,8 @@ pub fn tell_message(t: Told, out: &mut [u8]) -> u32
 
 // The decision too.
 pub fn tell(t: Told, out: &mut [u8], decision: &mut u32) -> u32
-    ensures { (result ≡ number_of t.refusal) × ((out.new ≡ putMessage today t.message out.old)
-        × (decision.new ≡ code_of t.decision)) }
+    ensures { (result ≡ numberOf t.refusal) × ((out.new ≡ putMessage today t.message out.old)
+        × (decision.new ≡ codeOf t.decision)) }
 {
     let d = t.decision;
     *decision = codes::code_of(d);

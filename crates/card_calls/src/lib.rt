@@ -1,12 +1,14 @@
 // A call on a card: which row, its step by value, and the one function that copies a row out and stores it back.
+#![tactic(auto)]
+
 pub mod buffers;
 
 ghost use Rattle.std.specs.Prelude.{◌≡◌};
 ghost use Rattle.tally.specs.Limits.{today};
 ghost use Rattle.calls.specs.InnerCalls.{settingsNarrow};
 ghost use Rattle.cards.specs.Calls.{wrongCount, namesNoRow};
-ghost use Rattle.cards.specs.InnerSteps.{settingsRead, ownLog, tells, rowAnswer, rowAnswered, withLog, actOf, step_of, isShort, isMalformed};
-ghost use Rattle.cards.specs.InnerSteps.{front, place_of, cardTold, cardRows};
+ghost use Rattle.cards.specs.InnerSteps.{settingsRead, ownLog, tells, rowAnswer, rowAnswered, withLog, actOf, stepOf, isShort, isMalformed};
+ghost use Rattle.cards.specs.InnerSteps.{front, placeOf, cardTold, cardRows};
 
 use cards::{Act, CardCall, CardRow, RowAnswer, SettingsRead, Told, UnitStep};
 use consensus::{Answer, Unit, step};
@@ -76,7 +78,7 @@ fn front(c: CardCall, count: usize) -> Refusal
 
 // Where the row of a call stands, or the count where there is none.
 fn place(c: CardCall, count: usize) -> usize
-    ensures { result ≡ place_of c count }
+    ensures { result ≡ placeOf c count }
 {
     if tally::number(front(c, count)) == 0 {
         wide(c.row) - 1
@@ -243,7 +245,7 @@ fn on_unit(c: CardCall, r: CardRow, s: UnitStep) -> RowAnswer
 
 // The step on a row.
 fn step_row(c: CardCall, r: CardRow) -> RowAnswer
-    ensures { result ≡ step_of today c r }
+    ensures { result ≡ stepOf today c r }
 {
     let act = c.act;
     match act {

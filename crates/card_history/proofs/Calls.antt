@@ -9,20 +9,20 @@ use lib.ListN.{length, length-set}
 use lib.Seq.{get_or-set_same}
 use borrow.Author.Tests.{eqb-true, eqb-false, leb-true, not-false}
 use Rattle.tally.specs.Limits.{Limits, Sane}
-use Rattle.tally.specs.Refusal.{number_of}
+use Rattle.tally.specs.Refusal.{numberOf}
 use Rattle.tally.specs.declared.Refusal.{Refusal}
 use Rattle.contents.specs.Logs.{settingsOk}
 use Rattle.contents.specs.Messages.{messageOk}
 use Rattle.contents.specs.declared.Image.{Image}
 use Rattle.contents.specs.declared.Log.{Log}
 use Rattle.contents.specs.declared.Message.{Message}
-use Rattle.contents.proofs.Tests.{both_true}
-use Rattle.formats.specs.Codes.{letterOf, code_of}
+use Rattle.contents.proofs.Tests.{both-true}
+use Rattle.formats.specs.Codes.{letterOf, codeOf}
 use Rattle.formats.specs.Formats.{ReadAnswer, reading, fromNumbers}
 use Rattle.formats.specs.Logs.{logFormat}
 use Rattle.formats.specs.Messages.{readMessage}
 use Rattle.formats.proofs.Letters.{engine-letter}
-use Rattle.consensus.specs.Conditions.{Condition, first_of, NoneHolds}
+use Rattle.consensus.specs.Conditions.{Condition, firstOf, NoneHolds}
 use Rattle.consensus.specs.Methods.{forOther, outOfRange, closesLast, unless, proposeConditions, propose, deliverConditions, deliver}
 use Rattle.consensus.specs.Step.{fresh, recovered, proposed, received}
 use Rattle.consensus.specs.Units.{WellFormed, unitLog, upUnit, downUnit, atLog}
@@ -31,14 +31,14 @@ use Rattle.consensus.specs.declared.Power.TheVariants.{Up}
 use Rattle.consensus.specs.declared.Unit as U
 use Rattle.consensus.proofs.Answers.{plain-proposed, plain-received}
 use Rattle.calls.specs.Calls.{badSettings, badMessage, messageBytes}
-use Rattle.cards.specs.Calls.{CardAnswer, row_at, answeredCard, unlessCard, namesNoRow, Beside, beside, cardStartConditions, cardStartCall}
+use Rattle.cards.specs.Calls.{CardAnswer, rowAt, answeredCard, unlessCard, namesNoRow, Beside, beside, cardStartConditions, cardStartCall}
 use Rattle.cards.specs.Calls.{cardKeyOnConditions, cardKeyOnCall, cardProposeConditions, cardProposeCall, cardDeliverConditions, cardDeliverCall}
 use Rattle.cards.specs.Claims.{OnRow}
-use Rattle.cards.specs.Rows.{numbersOf, logFieldsOf, rowLog, rowUnit, row_of, no_row}
+use Rattle.cards.specs.Rows.{numbersOf, logFieldsOf, rowLog, rowUnit, rowOf, noRow}
 use Rattle.cards.specs.declared.CardRow.{CardRow}
 use Rattle.cards.specs.declared.LogFields.{LogFields}
 use Rattle.cards.proofs.Calls.{start-on-row, key-on-on-row, propose-on-row, deliver-on-row}
-use Rattle.cards.proofs.Rows.{row_back}
+use Rattle.cards.proofs.Rows.{row-back}
 use Rattle.agreement.specs.Worlds.{Setup, settingsOf}
 use Rattle.card_history.specs.Cards.{CardWorld, Call, starts, keysOn, proposes, delivers, lentRows, cardOf, runCall}
 
@@ -49,7 +49,7 @@ Names card k = namesNoRow (length card) k ≡ false
 pub named : (card : List CardRow) (k : ℕ) → Names card k → (1 ≤ k) × (k ≤ length card)
 unfolding namesNoRow
 named card k h =
-    let t = both_true (leb 1 k) (leb k (length card)) (not-false _ h) in
+    let t = both-true (leb 1 k) (leb k (length card)) (not-false _ h) in
     (leb-true _ _ t.0, leb-true _ _ t.1)
 
 -- ---- any call
@@ -61,8 +61,8 @@ pub record Leaves (card : List CardRow) (a : CardAnswer) : Type 0 where
 
 -- row k is x, and every other is as it was
 pub record Stores (card : List CardRow) (k : ℕ) (x : CardRow) (rows : List CardRow) : Type 0 where
-  pub own : row_at rows k ≡ x
-  pub others : (j : ℕ) → 1 ≤ j → eqb j k ≡ false → row_at rows j ≡ row_at card j
+  pub own : rowAt rows k ≡ x
+  pub others : (j : ℕ) → 1 ≤ j → eqb j k ≡ false → rowAt rows j ≡ rowAt card j
 
 module _ {l : Limits} {cs : List Condition} {card : List CardRow} {k : ℕ} {x : CardRow} {out : List ℕ} {a : CardAnswer}
     (law : OnRow l cs card k x out a) where
@@ -84,13 +84,13 @@ module _ {l : Limits} {cs : List Condition} {card : List CardRow} {k : ℕ} {x :
       let b = named card k n in
       record {
         own =
-            ap (λ rows. row_at rows k) (law.stored (eqb-true _ _ e)) ∙ get_or-set_same card (k - 1) x no_row (omega (arith, b.0, b.1));
+            ap (λ rows. rowAt rows k) (law.stored (eqb-true _ _ e)) ∙ get_or-set_same card (k - 1) x noRow (omega (arith, b.0, b.1));
         others = λ j h q. law.others j h (eqb-false j k q);
       }
 
   -- an accepted call has its answer
   answer-is : (ok : CardAnswer) → a ≡ unlessCard l cs card out ok → eqb a.number 0 ≡ true → a ≡ ok
-  answer-is ok q e = let z : number_of (first_of cs) ≡ 0 = sym law.number ∙ eqb-true _ _ e in q ∙ rw z
+  answer-is ok q e = let z : numberOf (firstOf cs) ≡ 0 = sym law.number ∙ eqb-true _ _ e in q ∙ rw z
 
 module _ (l : Limits) (b : Beside) (card : List CardRow) where
   pub start-leaves : (k : ℕ) → Leaves card (cardStartCall l b card k)
@@ -116,39 +116,39 @@ call-leaves l w (delivers b card m out) = deliver-leaves l b _ m out
 
 -- an accepted answer of row k, which is the unit's own answer
 pub record Does (l : Limits) (card : List CardRow) (k : ℕ) (x : Answer) (a : CardAnswer) : Type 0 where
-  pub accepted : number_of x.refusal ≡ 0
-  pub rows : Stores card k (row_of x.unit) a.rows
+  pub accepted : numberOf x.refusal ≡ 0
+  pub rows : Stores card k (rowOf x.unit) a.rows
   pub out : a.out ≡ messageBytes l x.message.kind x.message
-  pub decision : a.decision ≡ code_of x.decision
+  pub decision : a.decision ≡ codeOf x.decision
 
 -- where no condition holds, the unit's step is the answer
-unless-none : (cs : List Condition) (x : U.Unit) (a : Answer) → first_of cs ≡ Refusal.None → unless cs x a ≡ a
+unless-none : (cs : List Condition) (x : U.Unit) (a : Answer) → firstOf cs ≡ Refusal.None → unless cs x a ≡ a
 unfolding unless
 unless-none cs x a e = rw e
 
 module _ (l : Limits) (sane : Sane l) where
   -- a log alone
-  pub log_back : (x : U.Unit) → WellFormed l x → (r : CardRow) → r.log ≡ logFieldsOf (unitLog x) → rowLog l r ≡ reading 0 (unitLog x)
+  pub log-back : (x : U.Unit) → WellFormed l x → (r : CardRow) → r.log ≡ logFieldsOf (unitLog x) → rowLog l r ≡ reading 0 (unitLog x)
   unfolding rowLog
-  log_back x wf r e = ap (λ (z : LogFields). fromNumbers (logFormat l) (numbersOf z)) e ∙ (row_back l sane x wf).0
+  log-back x wf r e = ap (λ (z : LogFields). fromNumbers (logFormat l) (numbersOf z)) e ∙ (row-back l sane x wf).0
 
   -- the unit of a row
-  unit-back : (x : U.Unit) → WellFormed l x → x.power ≡ Up → (r : CardRow) → r ≡ row_of x → rowUnit l r ≡ x
+  unit-back : (x : U.Unit) → WellFormed l x → x.power ≡ Up → (r : CardRow) → r ≡ rowOf x → rowUnit l r ≡ x
   unit-back x wf on r e =
       ap (rowUnit l) e
-      ∙ ap₂ (λ (g : ReadAnswer Log) (i : ReadAnswer Image). upUnit g.contents i.contents) (row_back l sane x wf).0 (row_back l sane x wf).1
+      ∙ ap₂ (λ (g : ReadAnswer Log) (i : ReadAnswer Image). upUnit g.contents i.contents) (row-back l sane x wf).0 (row-back l sane x wf).1
       ∙ ap (λ p.
       record { power = p; settings = x.settings; logged = x.logged; current = x.current; checks = x.checks; seconds = x.seconds })
       (sym on)
 
   -- an answer of the unit that the row holds
   does : (card : List CardRow) (k : ℕ) (cs : List Condition) (out : List ℕ) (r : CardRow) (x : Answer) (a : CardAnswer)
-      → OnRow l cs card k r out a → a ≡ unlessCard l cs card out (answeredCard l card k x) → r ≡ row_of x.unit → x.refusal ≡ Refusal.None
+      → OnRow l cs card k r out a → a ≡ unlessCard l cs card out (answeredCard l card k x) → r ≡ rowOf x.unit → x.refusal ≡ Refusal.None
       → Names card k → eqb a.number 0 ≡ true → Does l card k x a
   does card k cs out r x a law q same none n acc =
       let e = answer-is law (answeredCard l card k x) q acc in
       record {
-        accepted = ap number_of none;
+        accepted = ap numberOf none;
         rows = subst (λ z. Stores card k z a.rows) same (stores law acc n);
         out = ap (λ (z : CardAnswer). z.out) e;
         decision = ap (λ (z : CardAnswer). z.decision) e;
@@ -159,20 +159,20 @@ module _ (l : Limits) (sane : Sane l) where
     a-propose = cardProposeCall l b card k v out
 
     proposes-is : (x : U.Unit) → x.power ≡ Up → outOfRange l v ≡ false → propose l x v ≡ proposed x v
-    unfolding propose proposeConditions first_of
+    unfolding propose proposeConditions firstOf
     proposes-is x on six = unless-none (proposeConditions l x v) x (proposed x v) (rw (six, on))
 
-    pub propose-does : (x : U.Unit) → WellFormed l x → x.power ≡ Up → row_at card k ≡ row_of x → eqb a-propose.number 0 ≡ true
+    pub propose-does : (x : U.Unit) → WellFormed l x → x.power ≡ Up → rowAt card k ≡ rowOf x → eqb a-propose.number 0 ≡ true
         → Does l card k (propose l x v) a-propose
     unfolding cardProposeCall cardProposeConditions
     propose-does x wf on e acc =
         let law = propose-on-row l b card card refl k v out in
         let t = accepted law acc in
-        let back = unit-back x wf on (row_at card k) e in
+        let back = unit-back x wf on (rowAt card k) e in
         subst (λ z. Does l card k z a-propose) (sym (proposes-is x on t.1.1.1.1.0))
         (does card k (cardProposeConditions l b k card v out) out _ (proposed x v) a-propose law
         (ap (λ (y : U.Unit). unlessCard l (cardProposeConditions l b k card v out) card out (answeredCard l card k (proposed y v))) back)
-        (ap (λ (y : U.Unit). row_of (proposed y v).unit) back) (plain-proposed x v).none t.1.0 acc)
+        (ap (λ (y : U.Unit). rowOf (proposed y v).unit) back) (plain-proposed x v).none t.1.0 acc)
 
   module _ (b : Beside) (card : List CardRow) (bs out : List ℕ) where
     abbrev a-deliver : CardAnswer
@@ -188,33 +188,33 @@ module _ (l : Limits) (sane : Sane l) where
 
     delivers-is : (x : U.Unit) → x.power ≡ Up → messageOk l m ≡ true → forOther x.settings m ≡ false → closesLast l x m ≡ false
         → deliver l x m ≡ received x m
-    unfolding deliver deliverConditions first_of
+    unfolding deliver deliverConditions firstOf
     delivers-is x on ok five seven = unless-none (deliverConditions l x m) x (received x m) (rw (ok, five, seven, on))
 
-    pub deliver-does : messageOk l m ≡ true → (x : U.Unit) → WellFormed l x → x.power ≡ Up → row_at card m.entry ≡ row_of x
+    pub deliver-does : messageOk l m ≡ true → (x : U.Unit) → WellFormed l x → x.power ≡ Up → rowAt card m.entry ≡ rowOf x
         → eqb a-deliver.number 0 ≡ true → Does l card m.entry (deliver l x m) a-deliver
     unfolding cardDeliverCall cardDeliverConditions
     deliver-does ok x wf on e acc =
         let law = deliver-on-row l b card card refl bs out in
         let t = accepted law acc in
-        let back = unit-back x wf on (row_at card m.entry) e in
+        let back = unit-back x wf on (rowAt card m.entry) e in
         let five : forOther x.settings m ≡ false = rw back at t.1.1.1.1.1.0 in
         let seven : closesLast l x m ≡ false = rw back at t.1.1.1.1.1.1.0 in
         subst (λ z. Does l card m.entry z a-deliver) (sym (delivers-is x on ok five seven))
         (does card m.entry (cardDeliverConditions l b m card bs out) out _ (received x m) a-deliver law
         (ap (λ (y : U.Unit). unlessCard l (cardDeliverConditions l b m card bs out) card out (answeredCard l card m.entry (received y m))) back)
-        (ap (λ (y : U.Unit). row_of (received y m).unit) back) (plain-received x m).none t.1.1.0 acc)
+        (ap (λ (y : U.Unit). rowOf (received y m).unit) back) (plain-received x m).none t.1.1.0 acc)
 
   module _ (b : Beside) (card : List CardRow) (k : ℕ) where
     abbrev a-on : CardAnswer
     a-on = cardKeyOnCall l b card k
 
-    pub key-on-does : (x : U.Unit) → WellFormed l x → (row_at card k).log ≡ logFieldsOf (unitLog x) → eqb a-on.number 0 ≡ true
-        → Stores card k (row_of (recovered x)) a-on.rows
+    pub key-on-does : (x : U.Unit) → WellFormed l x → (rowAt card k).log ≡ logFieldsOf (unitLog x) → eqb a-on.number 0 ≡ true
+        → Stores card k (rowOf (recovered x)) a-on.rows
     unfolding cardKeyOnConditions recovered downUnit atLog
     key-on-does x wf e acc =
         let law = key-on-on-row l b card card refl k in
-        subst (λ (g : ReadAnswer Log). Stores card k (row_of (recovered (downUnit g.contents))) a-on.rows) (log_back x wf (row_at card k) e)
+        subst (λ (g : ReadAnswer Log). Stores card k (rowOf (recovered (downUnit g.contents))) a-on.rows) (log-back x wf (rowAt card k) e)
         (stores law acc (accepted law acc).1.0)
 
   module _ (c : Setup) (u : ℕ) (card : List CardRow) where
@@ -227,7 +227,7 @@ module _ (l : Limits) (sane : Sane l) where
     -- a start that is accepted names a row, and has settings in range
     pub start-does : eqb a-start.number 0 ≡ true
         → Names card c.entry
-        × ((settingsOk (settingsOf c u) ≡ true) × Stores card c.entry (row_of (fresh (settingsOf c u))) a-start.rows)
+        × ((settingsOk (settingsOf c u) ≡ true) × Stores card c.entry (rowOf (fresh (settingsOf c u))) a-start.rows)
     unfolding cardStartConditions badSettings
     start-does acc =
         let law = start-on-row l b card card refl c.entry in

@@ -11,7 +11,7 @@ use Rattle.contents.specs.declared.Message.{Message}
 use Rattle.formats.specs.Messages.{readMessage}
 use Rattle.consensus.specs.Step.{received}
 use Rattle.consensus.specs.Units.{unitLog}
-use Rattle.cards.specs.Calls.{row_at, cardDeliverCall}
+use Rattle.cards.specs.Calls.{rowAt, cardDeliverCall}
 use Rattle.cards.specs.Rows.{rowUnit}
 use Rattle.cards.specs.declared.CardRow.{CardRow}
 use Rattle.cards.specs.declared.LogFields.{LogFields}
@@ -31,7 +31,7 @@ module _ (l : Limits) (g : Engine) (n : ℕ) (w : CardWorld) (u i : ℕ) (out : 
 
   -- of a message that was sent, where the delivery is accepted
   pub cut-unwritten : get_elem? w.sent i ≡ some bs → (cardDeliverCall l (besideUnit g n u) rows bs out).number ≡ 0
-      → unitLog (received (rowUnit l (row_at rows m.entry)) m).unit ≡ unitLog (rowUnit l (row_at rows m.entry))
+      → unitLog (received (rowUnit l (rowAt rows m.entry)) m).unit ≡ unitLog (rowUnit l (rowAt rows m.entry))
       → step l g n w (cut u i out lost) ≡ step l g n w (off u m.entry lost)
   unfolding step delivering after
   cut-unwritten sent accepted same =
@@ -39,6 +39,6 @@ module _ (l : Limits) (g : Engine) (n : ℕ) (w : CardWorld) (u i : ℕ) (out : 
       let log = deliver-keeps-log l (besideUnit g n u) rows rows refl bs out accepted same in
       let off-alike : turnedOff (cardDeliverCall l (besideUnit g n u) rows bs out).rows m.entry lost ≡ turnedOff rows m.entry lost =
       ap (λ (f : LogFields). silent (set (cardDeliverCall l (besideUnit g n u) rows bs out).rows (m.entry - 1) (lost-beside f)) down) log
-      ∙ ap (λ (rs : List CardRow). silent (set rs (m.entry - 1) (lost-beside (row_at rows m.entry).log)) down) stored
+      ∙ ap (λ (rs : List CardRow). silent (set rs (m.entry - 1) (lost-beside (rowAt rows m.entry).log)) down) stored
       ∙ ap (λ (rs : List CardRow). silent rs down) (set-set rows (m.entry - 1) _ _) in
       rw (sent, accepted, off-alike)

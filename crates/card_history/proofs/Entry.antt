@@ -14,8 +14,8 @@ use Rattle.consensus.specs.Step.{fresh}
 use Rattle.consensus.specs.Units.{WellFormed, unitLog}
 use Rattle.consensus.specs.declared.Power.TheVariants.{Down, Up}
 use Rattle.consensus.specs.declared.Unit as U
-use Rattle.cards.specs.Calls.{row_at}
-use Rattle.cards.specs.Rows.{logFieldsOf, row_of}
+use Rattle.cards.specs.Calls.{rowAt}
+use Rattle.cards.specs.Rows.{logFieldsOf, rowOf}
 use Rattle.cards.specs.declared.CardRow.{CardRow}
 use Rattle.agreement.specs.Contents as C
 use Rattle.agreement.specs.Contents.{ContentsWorld}
@@ -36,19 +36,19 @@ of-own : {A : Type 0} (k : ℕ) (o : Option A) → taken (whatOf k) (ofEntry k o
 of-own k none = refl
 of-own k (some a) = rw (eq-eqb k k refl)
 
-of_other : {A : Type 0} (j k : ℕ) (o : Option A) → eqb j k ≡ false → taken (whatOf k) (ofEntry j o) ≡ none
-of_other j k none e = refl
-of_other j k (some a) e = rw e
+of-other : {A : Type 0} (j k : ℕ) (o : Option A) → eqb j k ≡ false → taken (whatOf k) (ofEntry j o) ≡ none
+of-other j k none e = refl
+of-other j k (some a) e = rw e
 
 module _ (l : Limits) (c : Setup) where
   -- row r of unit u holds the unit x of the contents; one that is not started is to the contents a fresh unit that nothing has met
   abbrev pub Stands : Stage → CardRow → ℕ → U.Unit → Type 0
   Stands new r u x = x ≡ fresh (settingsOf c u)
-  Stands up r u x = (settingsOk (settingsOf c u) ≡ true) × ((x.power ≡ Up) × (r ≡ row_of x))
+  Stands up r u x = (settingsOk (settingsOf c u) ≡ true) × ((x.power ≡ Up) × (r ≡ rowOf x))
   Stands down r u x = (settingsOk (settingsOf c u) ≡ true) × ((x.power ≡ Down) × (r.log ≡ logFieldsOf (unitLog x)))
 
   abbrev pub StandsAt : CardUnit → ℕ → U.Unit → Type 0
-  StandsAt y u x = Stands (y.stage c.entry) (row_at y.rows c.entry) u x
+  StandsAt y u x = Stands (y.stage c.entry) (rowAt y.rows c.entry) u x
 
   -- n and the entry are in their ranges
   abbrev pub Ranged : Type 0
@@ -156,7 +156,7 @@ module _ (l : Limits) (c : Setup) where
         unit j = record { rows = o.rows; stage = put (w.units u).stage j o.stage }
 
         -- what happens to row j of unit u is nothing to another entry
-        pub other : (j : ℕ) → eqb c.entry j ≡ false → (1 ≤ c.entry → row_at o.rows c.entry ≡ row_at (w.units u).rows c.entry)
+        pub other : (j : ℕ) → eqb c.entry j ≡ false → (1 ≤ c.entry → rowAt o.rows c.entry ≡ rowAt (w.units u).rows c.entry)
             → taken (entryMessage l c.entry) o.sent ≡ none → EntryStep w (next w u j o) i
         unfolding next
         other j apart same unsent =
@@ -165,11 +165,11 @@ module _ (l : Limits) (c : Setup) where
             (stands-put (unit j) i.contents.units
             (rw apart (restands ((w.units u).stage c.entry) _ _ _ (λ h. same (started w i u h).first) (i.units u))) (λ v q. refl))
             (pick-added (entryMessage l c.entry) w.sent o.sent ∙ ap (added _) unsent)
-            (pick-added (whatOf c.entry) w.proposed (ofEntry j o.proposed) ∙ ap (added _) (of_other j c.entry o.proposed back))
-            (pick-added (whatOf c.entry) w.decided (ofEntry j o.decided) ∙ ap (added _) (of_other j c.entry o.decided back))
+            (pick-added (whatOf c.entry) w.proposed (ofEntry j o.proposed) ∙ ap (added _) (of-other j c.entry o.proposed back))
+            (pick-added (whatOf c.entry) w.decided (ofEntry j o.decided) ∙ ap (added _) (of-other j c.entry o.decided back))
 
         -- what happens to the entry's own row of unit u happens to the contents too
-        pub own : (W : ContentsWorld) → Ranged → Moves i.contents W → Stands o.stage (row_at o.rows c.entry) u (W.units u)
+        pub own : (W : ContentsWorld) → Ranged → Moves i.contents W → Stands o.stage (rowAt o.rows c.entry) u (W.units u)
             → ((v : ℕ) → eqb v u ≡ false → W.units v ≡ i.contents.units v)
             → W.sent ≡ added i.contents.sent (taken (entryMessage l c.entry) o.sent)
             → W.proposed ≡ added i.contents.proposed o.proposed → W.decided ≡ added i.contents.decided o.decided

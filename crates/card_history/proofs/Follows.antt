@@ -26,8 +26,8 @@ use Rattle.consensus.specs.declared.Power.TheVariants.{Up}
 use Rattle.consensus.specs.declared.Unit as U
 use Rattle.consensus.proofs.Answers.{propose-keeps, propose-power, deliver-power}
 use Rattle.consensus.proofs.Soundness.{sound-propose, sound-deliver}
-use Rattle.cards.specs.Calls.{CardAnswer, row_at, cardStartCall, cardKeyOnCall, cardProposeCall, cardDeliverCall}
-use Rattle.cards.specs.Rows.{logFieldsOf, row_of}
+use Rattle.cards.specs.Calls.{CardAnswer, rowAt, cardStartCall, cardKeyOnCall, cardProposeCall, cardDeliverCall}
+use Rattle.cards.specs.Rows.{logFieldsOf, rowOf}
 use Rattle.cards.specs.declared.CardRow.{CardRow}
 use Rattle.agreement.specs.Bytes.{unlessEmpty}
 use Rattle.agreement.specs.Contents as C
@@ -48,21 +48,21 @@ use Rattle.card_history.proofs.Moves.{off-unit, on-unit, recovered-up, down-unit
 use Rattle.card_history.proofs.Picked.{taken, picked-at}
 use Rattle.card_history.proofs.Places.{placed-step}
 use Rattle.card_history.proofs.Sent.{sends}
-use Rattle.card_history.proofs.Stages.{if-so, is-new, is_up, is_down}
+use Rattle.card_history.proofs.Stages.{if-so, is-new, is-up, is-down}
 
 put-own : (f : ℕ → U.Unit) (u : ℕ) (x : U.Unit) → put f u x u ≡ x
 put-own f u x = rw (eq-eqb u u refl)
 
-put_other : (f : ℕ → U.Unit) (u : ℕ) (x : U.Unit) (v : ℕ) → eqb v u ≡ false → put f u x v ≡ f v
-put_other f u x v e = rw e
+put-other : (f : ℕ → U.Unit) (u : ℕ) (x : U.Unit) (v : ℕ) → eqb v u ≡ false → put f u x v ≡ f v
+put-other f u x v e = rw e
 
 same-added : {A : Type 0} (xs : List A) (o : Option A) → H.added xs o ≡ added xs o
 same-added xs none = refl
 same-added xs (some a) = refl
 
-fresh_up : (c : Setup) (u : ℕ) (x : U.Unit) → x ≡ fresh (settingsOf c u) → x.power ≡ Up
+fresh-up : (c : Setup) (u : ℕ) (x : U.Unit) → x ≡ fresh (settingsOf c u) → x.power ≡ Up
 unfolding fresh atLog
-fresh_up c u x e = ap (λ (y : U.Unit). y.power) e
+fresh-up c u x e = ap (λ (y : U.Unit). y.power) e
 
 module _ (l : Limits) (sane : Sane l) (g : Engine) (n : ℕ) (w : CardWorld) (cards : CardInv l g n w) where
   abbrev at : (k : ℕ) → EntryInv l (setup g n k) w
@@ -90,7 +90,7 @@ module _ (l : Limits) (sane : Sane l) (g : Engine) (n : ℕ) (w : CardWorld) (ca
 
     -- an outcome of row j of unit u
     outcome : (o : RowOutcome) → EntryStep l c w (next w u j o) (at j)
-        → ((k : ℕ) → 1 ≤ k → eqb k j ≡ false → row_at o.rows k ≡ row_at rows k)
+        → ((k : ℕ) → 1 ≤ k → eqb k j ≡ false → rowAt o.rows k ≡ rowAt rows k)
         → ((k : ℕ) → eqb k j ≡ false → taken (entryMessage l k) o.sent ≡ none) → CardStep (next w u j o)
     outcome o here same unsent k = go (eqb k j) refl
       where
@@ -99,27 +99,27 @@ module _ (l : Limits) (sane : Sane l) (g : Engine) (n : ℕ) (w : CardWorld) (ca
         go false e = other l (setup g n k) w (at k) u o j e (λ h. same k h e) (unsent k e)
 
     -- a call, accepted or refused
-    by_answer : (a : CardAnswer) (o : RowOutcome) → Leaves rows a → (eqb a.number 0 ≡ true → CardStep (next w u j o)) → CardStep (after w u j a o)
+    by-answer : (a : CardAnswer) (o : RowOutcome) → Leaves rows a → (eqb a.number 0 ≡ true → CardStep (next w u j o)) → CardStep (after w u j a o)
     unfolding after
-    by_answer a o law yea = go (eqb a.number 0) refl
+    by-answer a o law yea = go (eqb a.number 0) refl
       where
         go : (b : Bool) → eqb a.number 0 ≡ b → CardStep (cond b (next w u j o) (leave w u a.rows))
         go true e = yea e
         go false e = λ k. left l (setup g n k) w (at k) u a.rows (law.refused e)
 
     -- what stands in the row, by its stage
-    stands : (s : Stage) → (w.units u).stage j ≡ s → Stands l c s (row_at rows j) u x
-    stands s e = subst (λ z. Stands l c z (row_at rows j) u x) e ((at j).units u)
+    stands : (s : Stage) → (w.units u).stage j ≡ s → Stands l c s (rowAt rows j) u x
+    stands s e = subst (λ z. Stands l c z (rowAt rows j) u x) e ((at j).units u)
 
     -- ---- the row is up, by a start or a key-on
 
-    goes-up : (a : CardAnswer) (y : U.Unit) → settingsOk (settingsOf c u) ≡ true → y.power ≡ Up → Stores rows j (row_of y) a.rows
+    goes-up : (a : CardAnswer) (y : U.Unit) → settingsOk (settingsOf c u) ≡ true → y.power ≡ Up → Stores rows j (rowOf y) a.rows
         → (W' : ContentsWorld) → W'.units u ≡ y → ((v : ℕ) → eqb v u ≡ false → W'.units v ≡ W.units v) → W'.sent ≡ W.sent
         → W'.proposed ≡ W.proposed → W'.decided ≡ W.decided → Moves l c W W' → CardStep (next w u j (silent a.rows up))
     goes-up a y ok lit put W' here there s p d moves =
         outcome (silent a.rows up)
         (own l c w (at j) u (silent a.rows up) W' (started l c w (at j) u ok).all moves
-        (subst (Stands l c up (row_at a.rows j) u) (sym here) (ok, (lit, put.own))) there s p d)
+        (subst (Stands l c up (rowAt a.rows j) u) (sym here) (ok, (lit, put.own))) there s p d)
         put.others (λ k q. refl)
 
     module _ (e : (w.units u).stage j ≡ new) where
@@ -129,11 +129,11 @@ module _ (l : Limits) (sane : Sane l) (g : Engine) (n : ℕ) (w : CardWorld) (ca
       start-accepted : eqb a-start.number 0 ≡ true → CardStep (next w u j (silent a-start.rows up))
       start-accepted acc =
           let d = start-does l sane c u rows acc in
-          goes-up a-start (fresh (settingsOf c u)) d.1.0 (fresh_up c u (fresh (settingsOf c u)) refl) d.1.1 W (stands new e)
+          goes-up a-start (fresh (settingsOf c u)) d.1.0 (fresh-up c u (fresh (settingsOf c u)) refl) d.1.1 W (stands new e)
           (λ v q. refl) refl refl refl (by-none l c W ((at j).inv (started l c w (at j) u d.1.0).all))
 
       start-at : CardStep (after w u j a-start (silent a-start.rows up))
-      start-at = by_answer a-start (silent a-start.rows up) (start-leaves l _ rows j) start-accepted
+      start-at = by-answer a-start (silent a-start.rows up) (start-leaves l _ rows j) start-accepted
 
     module _ (e : (w.units u).stage j ≡ down) where
       abbrev a-on : CardAnswer
@@ -144,33 +144,33 @@ module _ (l : Limits) (sane : Sane l) (g : Engine) (n : ℕ) (w : CardWorld) (ca
           let h = stands down e in
           let s = started l c w (at j) u h.0 in
           goes-up a-on (recovered x) h.0 (recovered-up x) (key-on-does l sane _ rows j x s.well-formed h.1.1 acc)
-          (change W u (D.keyOn x).unit) (put-own W.units u (D.keyOn x).unit ∙ on-unit x h.1.0) (put_other W.units u (D.keyOn x).unit)
+          (change W u (D.keyOn x).unit) (put-own W.units u (D.keyOn x).unit ∙ on-unit x h.1.0) (put-other W.units u (D.keyOn x).unit)
           refl refl refl (moves-on l c W ((at j).inv s.all) u s.below)
 
       on-at : CardStep (after w u j a-on (silent a-on.rows up))
-      on-at = by_answer a-on (silent a-on.rows up) (key-on-leaves l _ rows j) on-accepted
+      on-at = by-answer a-on (silent a-on.rows up) (key-on-leaves l _ rows j) on-accepted
 
     -- ---- the row goes down, by a key-off or a cut
 
-    goes_down : (R : List CardRow) (lost : CardRow) (y : U.Unit) → settingsOk (settingsOf c u) ≡ true
-        → ((k : ℕ) → 1 ≤ k → eqb k j ≡ false → row_at R k ≡ row_at rows k) → (row_at R j).log ≡ logFieldsOf (unitLog y)
+    goes-down : (R : List CardRow) (lost : CardRow) (y : U.Unit) → settingsOk (settingsOf c u) ≡ true
+        → ((k : ℕ) → 1 ≤ k → eqb k j ≡ false → rowAt R k ≡ rowAt rows k) → (rowAt R j).log ≡ logFieldsOf (unitLog y)
         → y.power ≡ Up → Moves l c W (change W u (D.keyOff y).unit) → CardStep (next w u j (turnedOff R j lost))
-    goes_down R lost y ok others log lit moves =
+    goes-down R lost y ok others log lit moves =
         let s = started l c w (at j) u ok in
         let q : put W.units u (D.keyOff y).unit u ≡ downUnit (unitLog y) = put-own W.units u (D.keyOff y).unit ∙ off-unit y lit in
         outcome (turnedOff R j lost)
         (own l c w (at j) u (turnedOff R j lost) (change W u (D.keyOff y).unit) s.all moves
-        (subst (Stands l c down (row_at (turnedOff R j lost).rows j) u) (sym q)
+        (subst (Stands l c down (rowAt (turnedOff R j lost).rows j) u) (sym q)
         (ok, ((down-unit y).0, off-logs R j j lost ∙ log ∙ ap logFieldsOf (sym (down-unit y).1))))
-        (put_other W.units u (D.keyOff y).unit) refl refl refl)
+        (put-other W.units u (D.keyOff y).unit) refl refl refl)
         (λ k h q. off-others R j k lost s.first h q ∙ others k h q)
         (λ k q. refl)
 
-    off_at : (w.units u).stage j ≡ up → (lost : CardRow) → CardStep (next w u j (turnedOff rows j lost))
-    off_at e lost =
+    off-at : (w.units u).stage j ≡ up → (lost : CardRow) → CardStep (next w u j (turnedOff rows j lost))
+    off-at e lost =
         let h = stands up e in
         let s = started l c w (at j) u h.0 in
-        goes_down rows lost x h.0 (λ k b q. refl) (ap (λ (z : CardRow). z.log) h.1.1) h.1.0
+        goes-down rows lost x h.0 (λ k b q. refl) (ap (λ (z : CardRow). z.log) h.1.1) h.1.0
         (moves-off l c W ((at j).inv s.all) u s.below)
 
     -- ---- an answer of an up row
@@ -192,8 +192,8 @@ module _ (l : Limits) (sane : Sane l) (g : Engine) (n : ℕ) (w : CardWorld) (ca
       answers power ps po same round ds dec moves =
           outcome o
           (own l c w (at j) u o (answerAdded W ps u round x') (started l c w (at j) u ok).all moves
-          (subst (Stands l c up (row_at a.rows j) u) (sym (put-own W.units u x'.unit)) (ok, (power, does.rows.own)))
-          (put_other W.units u x'.unit)
+          (subst (Stands l c up (rowAt a.rows j) u) (sym (put-own W.units u x'.unit)) (ok, (power, does.rows.own)))
+          (put-other W.units u x'.unit)
           (same-added W.sent (C.unlessEmpty x'.message.kind x'.message) ∙ ap (added W.sent) (sym sends-own))
           same
           (same-added W.decided (decision u round x'.decision) ∙ ap (added W.decided) dec))
@@ -219,7 +219,7 @@ module _ (l : Limits) (sane : Sane l) (g : Engine) (n : ℕ) (w : CardWorld) (ca
           (ap (decision u 0) (propose-keeps l x v).1) (moves-proposal l c W ((at j).inv s.all) u s.below v d.accepted)
 
       proposal-at : CardStep (after w u j a-propose (hasProposed u v a-propose))
-      proposal-at = by_answer a-propose (hasProposed u v a-propose) (propose-leaves l _ rows j v out) propose-accepted
+      proposal-at = by-answer a-propose (hasProposed u v a-propose) (propose-leaves l _ rows j v out) propose-accepted
 
   -- ---- a delivery, or a cut of it
 
@@ -240,7 +240,7 @@ module _ (l : Limits) (sane : Sane l) (g : Engine) (n : ℕ) (w : CardWorld) (ca
       abbrev y : U.Unit
       y = X.units u
 
-      h : Stands l c-m up (row_at (w.units u).rows m.entry) u y
+      h : Stands l c-m up (rowAt (w.units u).rows m.entry) u y
       h = stands u m.entry up e
 
       s : Started l c-m w (at m.entry) u
@@ -277,15 +277,15 @@ module _ (l : Limits) (sane : Sane l) (g : Engine) (n : ℕ) (w : CardWorld) (ca
 
         cut-accepted : (lost : CardRow) → CardStep (next w u m.entry (turnedOff a.rows m.entry lost))
         cut-accepted lost =
-            goes_down u m.entry a.rows lost (D.deliver l y m).unit h.0 does.rows.others
+            goes-down u m.entry a.rows lost (D.deliver l y m).unit h.0 does.rows.others
             (ap (λ (z : CardRow). z.log) does.rows.own) power
             (moves-cut l c-m X ((at m.entry).inv s.all) u s.below m numbered.0 numbered.1 does.accepted)
 
       delivery-at : CardStep (after w u m.entry a (hasReceived u m.round a))
-      delivery-at = by_answer u m.entry a _ (deliver-leaves l _ _ bs out) delivery-accepted
+      delivery-at = by-answer u m.entry a _ (deliver-leaves l _ _ bs out) delivery-accepted
 
-      cut_at : (lost : CardRow) → CardStep (after w u m.entry a (turnedOff a.rows m.entry lost))
-      cut_at lost = by_answer u m.entry a _ (deliver-leaves l _ _ bs out) (λ acc. cut-accepted acc lost)
+      cut-at : (lost : CardRow) → CardStep (after w u m.entry a (turnedOff a.rows m.entry lost))
+      cut-at lost = by-answer u m.entry a _ (deliver-leaves l _ _ bs out) (λ acc. cut-accepted acc lost)
 
   -- by whether the message was sent, and its row is up
   messages : (u i : ℕ) (out : List ℕ) (f : Message → CardAnswer → RowOutcome)
@@ -298,7 +298,7 @@ module _ (l : Limits) (sane : Sane l) (g : Engine) (n : ℕ) (w : CardWorld) (ca
     where
       go : (o : Option (List ℕ)) → get_elem? w.sent i ≡ o → CardStep (delivering l g n w u out f o)
       go none e = idles
-      go (some bs) e = if-so CardStep (isUp ((w.units u).stage (readMessage l bs).contents.entry)) _ w (λ h. event bs e (is_up _ h)) idles
+      go (some bs) e = if-so CardStep (isUp ((w.units u).stage (readMessage l bs).contents.entry)) _ w (λ h. event bs e (is-up _ h)) idles
 
   -- ---- a refused call
 
@@ -311,11 +311,11 @@ module _ (l : Limits) (sane : Sane l) (g : Engine) (n : ℕ) (w : CardWorld) (ca
   pub steps : (e : CardEvent) → LawfulEvent l g n w e → CardStep (step l g n w e)
   unfolding step
   steps (start u k) h = if-so CardStep (isNew ((w.units u).stage k)) _ w (λ e. start-at u k (is-new _ e)) idles
-  steps (proposal u k v out) h = if-so CardStep (isUp ((w.units u).stage k)) _ w (λ e. proposal-at u k (is_up _ e) v out) idles
+  steps (proposal u k v out) h = if-so CardStep (isUp ((w.units u).stage k)) _ w (λ e. proposal-at u k (is-up _ e) v out) idles
   steps (delivery u i out) h = messages u i out _ (λ bs e s. delivery-at u i bs out e s)
-  steps (cut u i out lost) h = messages u i out _ (λ bs e s. cut_at u i bs out e s lost)
-  steps (off u k lost) h = if-so CardStep (isUp ((w.units u).stage k)) _ w (λ e. off_at u k (is_up _ e) lost) idles
-  steps (on u k) h = if-so CardStep (isDown ((w.units u).stage k)) _ w (λ e. on-at u k (is_down _ e)) idles
+  steps (cut u i out lost) h = messages u i out _ (λ bs e s. cut-at u i bs out e s lost)
+  steps (off u k lost) h = if-so CardStep (isUp ((w.units u).stage k)) _ w (λ e. off-at u k (is-up _ e) lost) idles
+  steps (on u k) h = if-so CardStep (isDown ((w.units u).stage k)) _ w (λ e. on-at u k (is-down _ e)) idles
   steps (call c) h = lent (cardOf c) _ ((call-leaves l w c).refused (ne_eqb _ _ h))
 
 -- the invariant is kept by every event

@@ -11,10 +11,10 @@ use borrow.Author.Tests.{eqb-true, eqb-false, eq-eqb, ne_eqb, leb-true, leb-fals
 use Rattle.tally.specs.Limits.{Limits}
 use Rattle.tally.specs.declared.Engine.{Engine}
 use Rattle.tally.proofs.Never.{never}
-use Rattle.cards.specs.Calls.{row_at}
-use Rattle.cards.specs.Rows.{no_row}
+use Rattle.cards.specs.Calls.{rowAt}
+use Rattle.cards.specs.Rows.{noRow}
 use Rattle.cards.specs.declared.CardRow.{CardRow}
-use Rattle.cards.proofs.Calls.{kept_at}
+use Rattle.cards.proofs.Calls.{kept-at}
 use Rattle.agreement.specs.Worlds.{run}
 use Rattle.card_history.specs.Cards.{Stage, new, up, down, CardWorld, off, turnedOff, next, isUp, step}
 use Rattle.card_history.specs.Claims.{Placed, offAll, lowered, RowsOff, upToRow}
@@ -23,17 +23,17 @@ use Rattle.card_history.proofs.Calls.{named}
 -- ---- a row that is turned off
 
 -- every row keeps its log
-pub off-logs : (rows : List CardRow) (k j : ℕ) (lost : CardRow) → (row_at (turnedOff rows k lost).rows j).log ≡ (row_at rows j).log
+pub off-logs : (rows : List CardRow) (k j : ℕ) (lost : CardRow) → (rowAt (turnedOff rows k lost).rows j).log ≡ (rowAt rows j).log
 off-logs rows k j lost = go (eqb (j - 1) (k - 1)) refl
   where
-    go : (b : Bool) → eqb (j - 1) (k - 1) ≡ b → (row_at (turnedOff rows k lost).rows j).log ≡ (row_at rows j).log
-    go true e = rw (eqb-true (j - 1) (k - 1) e) (kept_at rows (k - 1) _ refl)
-    go false e = ap (λ (z : CardRow). z.log) (get_or-set_other rows (k - 1) (j - 1) _ no_row (eqb-false (j - 1) (k - 1) e))
+    go : (b : Bool) → eqb (j - 1) (k - 1) ≡ b → (rowAt (turnedOff rows k lost).rows j).log ≡ (rowAt rows j).log
+    go true e = rw (eqb-true (j - 1) (k - 1) e) (kept-at rows (k - 1) _ refl)
+    go false e = ap (λ (z : CardRow). z.log) (get_or-set_other rows (k - 1) (j - 1) _ noRow (eqb-false (j - 1) (k - 1) e))
 
 -- and every other row its image
 pub off-others : (rows : List CardRow) (k j : ℕ) (lost : CardRow) → 1 ≤ k → 1 ≤ j → eqb j k ≡ false
-    → row_at (turnedOff rows k lost).rows j ≡ row_at rows j
-off-others rows k j lost hk hj e = get_or-set_other rows (k - 1) (j - 1) _ no_row (λ q. eqb-false j k e (omega (arith, q)))
+    → rowAt (turnedOff rows k lost).rows j ≡ rowAt rows j
+off-others rows k j lost hk hj e = get_or-set_other rows (k - 1) (j - 1) _ noRow (λ q. eqb-false j k e (omega (arith, q)))
 
 -- ---- the key of a whole bike
 

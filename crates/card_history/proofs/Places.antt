@@ -20,27 +20,27 @@ use Rattle.card_history.specs.Cards.{lentRows, leaveLent, cardOf, besideUnit, de
 use Rattle.card_history.specs.Claims.{Placed}
 use Rattle.card_history.proofs.Calls.{Names, Leaves, start-leaves, key-on-leaves, propose-leaves, deliver-leaves, call-leaves, start-does}
 use Rattle.card_history.proofs.Entry.{setup}
-use Rattle.card_history.proofs.Stages.{if-so, is_up, is_down}
+use Rattle.card_history.proofs.Stages.{if-so, is-up, is-down}
 
 module _ (w : CardWorld) (placed : Placed w) (u : ℕ) where
   abbrev card : List CardRow
   card = (w.units u).rows
 
   -- unit u has as many rows as before, and where a stage is not new its row is there
-  with_unit : (x : CardUnit) → length x.rows ≡ length card → ((k : ℕ) → isNew (x.stage k) ≡ false → Names card k)
+  with-unit : (x : CardUnit) → length x.rows ≡ length card → ((k : ℕ) → isNew (x.stage k) ≡ false → Names card k)
       → (v k : ℕ) (b : Bool) → eqb v u ≡ b → isNew ((cond b x (w.units v)).stage k) ≡ false
       → namesNoRow (length (cond b x (w.units v)).rows) k ≡ false
-  with_unit x long there v k true e h = subst (λ i. namesNoRow i k ≡ false) (sym long) (there k h)
-  with_unit x long there v k false e h = placed v k h
+  with-unit x long there v k true e h = subst (λ i. namesNoRow i k ≡ false) (sym long) (there k h)
+  with-unit x long there v k false e h = placed v k h
 
   placed-leave : (rows : List CardRow) → length rows ≡ length card → Placed (leave w u rows)
   unfolding leave
-  placed-leave rows long v k = with_unit (record { rows = rows; stage = (w.units u).stage }) long (placed u) v k (eqb v u) refl
+  placed-leave rows long v k = with-unit (record { rows = rows; stage = (w.units u).stage }) long (placed u) v k (eqb v u) refl
 
   placed-next : (j : ℕ) (o : RowOutcome) → length o.rows ≡ length card → Names card j → Placed (next w u j o)
   unfolding next
   placed-next j o long here v k =
-      with_unit (record { rows = o.rows; stage = put (w.units u).stage j o.stage }) long (λ i h. go i (eqb i j) refl h) v k (eqb v u) refl
+      with-unit (record { rows = o.rows; stage = put (w.units u).stage j o.stage }) long (λ i h. go i (eqb i j) refl h) v k (eqb v u) refl
     where
       go : (i : ℕ) (b : Bool) → eqb i j ≡ b → isNew (cond b o.stage ((w.units u).stage i)) ≡ false → Names card i
       go i true e h = subst (Names card) (sym (eqb-true i j e)) here
@@ -58,10 +58,10 @@ module _ (w : CardWorld) (placed : Placed w) (u : ℕ) where
 module _ (l : Limits) (sane : Sane l) (g : Engine) (n : ℕ) (w : CardWorld) (placed : Placed w) where
   -- an event of a row that is started changes nothing where it is not up, or not down
   if-up : (u k : ℕ) (w' : CardWorld) → (Names (w.units u).rows k → Placed w') → Placed (cond (isUp ((w.units u).stage k)) w' w)
-  if-up u k w' f = if-so Placed (isUp ((w.units u).stage k)) w' w (λ e. f (placed u k (ap isNew (is_up ((w.units u).stage k) e)))) placed
+  if-up u k w' f = if-so Placed (isUp ((w.units u).stage k)) w' w (λ e. f (placed u k (ap isNew (is-up ((w.units u).stage k) e)))) placed
 
   if-down : (u k : ℕ) (w' : CardWorld) → (Names (w.units u).rows k → Placed w') → Placed (cond (isDown ((w.units u).stage k)) w' w)
-  if-down u k w' f = if-so Placed (isDown ((w.units u).stage k)) w' w (λ e. f (placed u k (ap isNew (is_down ((w.units u).stage k) e)))) placed
+  if-down u k w' f = if-so Placed (isDown ((w.units u).stage k)) w' w (λ e. f (placed u k (ap isNew (is-down ((w.units u).stage k) e)))) placed
 
   messages : (u : ℕ) (out : List ℕ) (f : Message → CardAnswer → RowOutcome)
       → ((m : Message) (a : CardAnswer) → length (f m a).rows ≡ length a.rows) → (o : Option (List ℕ)) → Placed (delivering l g n w u out f o)

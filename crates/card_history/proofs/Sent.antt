@@ -35,9 +35,9 @@ module _ (l : Limits) (sane : Sane l) (c : Setup) (u k : ℕ) where
   sends-one m f letter = rw (letter-first l m letter, (read-message l sane m f.well-formed).0, f.entry)
 
   -- zeros are read as no message
-  sends_none : taken (entryMessage l k) (unlessEmpty (emptyBytes l)) ≡ cond (eqb c.entry k) none none
+  sends-none : taken (entryMessage l k) (unlessEmpty (emptyBytes l)) ≡ cond (eqb c.entry k) none none
   unfolding entryMessage
-  sends_none = go (allZero (emptyBytes l)) (eqb c.entry k)
+  sends-none = go (allZero (emptyBytes l)) (eqb c.entry k)
     where
       go : (b t : Bool) → taken (entryMessage l k) (cond b none (some (emptyBytes l))) ≡ cond t none none
       go true true = refl
@@ -47,7 +47,7 @@ module _ (l : Limits) (sane : Sane l) (c : Setup) (u k : ℕ) where
 
   sends-kind : (d : Kind) (m : Message) → m.kind ≡ d → From l (settingsOf c u) m → Sends d m
   unfolding messageBytes
-  sends-kind Empty m e f = sends_none
+  sends-kind Empty m e f = sends-none
   sends-kind First m e f = sends-one m f (rw e)
   sends-kind Check m e f = sends-one m f (rw e)
   sends-kind Second m e f = sends-one m f (rw e)
@@ -55,5 +55,5 @@ module _ (l : Limits) (sane : Sane l) (c : Setup) (u k : ℕ) where
 
   pub sends : (m : Message) → (m ≡ emptyMessage) ⊎ From l (settingsOf c u) m → Sends m.kind m
   unfolding messageBytes
-  sends m (inl e) = rw e sends_none
+  sends m (inl e) = rw e sends-none
   sends m (inr f) = sends-kind m.kind m refl f

@@ -13,12 +13,12 @@ is-new new e = refl
 is-new up e = never e
 is-new down e = never e
 
-pub is_up : (s : Stage) → isUp s ≡ true → s ≡ up
-is_up new e = never e
-is_up up e = refl
-is_up down e = never e
+pub is-up : (s : Stage) → isUp s ≡ true → s ≡ up
+is-up new e = never e
+is-up up e = refl
+is-up down e = never e
 
-pub is_down : (s : Stage) → isDown s ≡ true → s ≡ down
-is_down new e = never e
-is_down up e = never e
-is_down down e = refl
+pub is-down : (s : Stage) → isDown s ≡ true → s ≡ down
+is-down new e = never e
+is-down up e = never e
+is-down down e = refl

@@ -12,10 +12,10 @@ use Rattle.contents.specs.declared.Log.{Log}
 use Rattle.contents.specs.declared.State.{State}
 use Rattle.formats.specs.Formats.{ReadAnswer, reading}
 use Rattle.consensus.specs.Units.{unitLog, unitImage}
-use Rattle.cards.specs.Calls.{row_at}
+use Rattle.cards.specs.Calls.{rowAt}
 use Rattle.cards.specs.Rows.{rowLog, rowImage}
 use Rattle.cards.specs.declared.CardRow.{CardRow}
-use Rattle.cards.proofs.Rows.{row_back}
+use Rattle.cards.proofs.Rows.{row-back}
 use Rattle.agreement.specs.Contents as C
 use Rattle.agreement.specs.Worlds.{Setup, Decision, run, Given, Locked, Seconded}
 use Rattle.agreement.proofs.History.{Inv, Later, now, and-later, begun-inv, run-append, run-snoc, locked-later, seconds-sent}
@@ -24,7 +24,7 @@ use Rattle.agreement.proofs.Votes.{many-map}
 use Rattle.card_history.specs.Cards.{Stage, new, up, down, CardWorld, begun, CardEvent, isNew, isUp, step, Lawful}
 use Rattle.card_history.specs.Claims.{Placed}
 use Rattle.card_history.specs.Demand3.{entryMessage, readAt, view, Reported, AgreedAt, CardDemand3}
-use Rattle.card_history.proofs.Calls.{log_back}
+use Rattle.card_history.proofs.Calls.{log-back}
 use Rattle.card_history.proofs.Entry.{setup, Stands, EntryInv, Started, started, CardInv}
 use Rattle.card_history.proofs.Follows.{steps, card-step}
 use Rattle.card_history.proofs.Picked.{picked-from}
@@ -72,33 +72,33 @@ module _ (l : Limits) (sane : Sane l) (g : Engine) (n : ℕ) where
       -- of a started row
       record Read : Type 0 where
         ready : Started l c w i u
-        log : rowLog l (row_at (w.units u).rows k) ≡ reading 0 (unitLog (W.units u))
+        log : rowLog l (rowAt (w.units u).rows k) ≡ reading 0 (unitLog (W.units u))
 
       reads-log : isNew ((w.units u).stage k) ≡ false → Read
       reads-log h = go ((w.units u).stage k) h (i.units u)
         where
-          go : (s : Stage) → isNew s ≡ false → Stands l c s (row_at (w.units u).rows k) u (W.units u) → Read
+          go : (s : Stage) → isNew s ≡ false → Stands l c s (rowAt (w.units u).rows k) u (W.units u) → Read
           go new e x = never (sym e)
           go up e x =
               let s = started l c w i u x.0 in
-              record { ready = s; log = log_back l sane (W.units u) s.well-formed _ (ap (λ (z : CardRow). z.log) x.1.1) }
+              record { ready = s; log = log-back l sane (W.units u) s.well-formed _ (ap (λ (z : CardRow). z.log) x.1.1) }
           go down e x =
               let s = started l c w i u x.0 in
-              record { ready = s; log = log_back l sane (W.units u) s.well-formed _ x.1.1 }
+              record { ready = s; log = log-back l sane (W.units u) s.well-formed _ x.1.1 }
 
       -- and of an up one
       record Shown : Type 0 where
         ready : Started l c w i u
-        image : rowImage l (row_at (w.units u).rows k) ≡ reading 0 (unitImage (W.units u))
+        image : rowImage l (rowAt (w.units u).rows k) ≡ reading 0 (unitImage (W.units u))
 
       reads-image : isUp ((w.units u).stage k) ≡ true → Shown
       reads-image h = go ((w.units u).stage k) h (i.units u)
         where
-          go : (s : Stage) → isUp s ≡ true → Stands l c s (row_at (w.units u).rows k) u (W.units u) → Shown
+          go : (s : Stage) → isUp s ≡ true → Stands l c s (rowAt (w.units u).rows k) u (W.units u) → Shown
           go new e x = never e
           go up e x =
               let s = started l c w i u x.0 in
-              record { ready = s; image = ap (rowImage l) x.1.1 ∙ (row_back l sane (W.units u) s.well-formed).1 }
+              record { ready = s; image = ap (rowImage l) x.1.1 ∙ (row-back l sane (W.units u) s.well-formed).1 }
           go down e x = never e
 
       log-state : (s : State) → (view l k).HasLog (w.units u) s → (W.units u).logged ≡ s
@@ -108,8 +108,8 @@ module _ (l : Limits) (sane : Sane l) (g : Engine) (n : ℕ) where
       image-state s h = ap (λ (z : ReadAnswer Image). z.contents.state) (sym (reads-image h.0).image) ∙ h.1.1
 
     -- a message of the entry is among the bytes sent
-    same_second : (d : Decision) (u : ℕ) → Seconded C.view W d u → Seconded (view l k) (readAt k w) d u
-    same_second d u a =
+    same-second : (d : Decision) (u : ℕ) → Seconded C.view W d u → Seconded (view l k) (readAt k w) d u
+    same-second d u a =
         let there : Memᴰ a.message W.sent = subst (λ z. Memᴰ z W.sent) a.reads a.sent in
         let p = picked-from (entryMessage l k) w.sent a.message (subst (Memᴰ a.message) i.sent there) in
         record {
@@ -163,7 +163,7 @@ module _ (l : Limits) (sane : Sane l) (g : Engine) (n : ℕ) where
         logs-read = λ u h. ((end.contents.units u).logged, (h, rw (reads-log k last end u h).log (refl, refl)));
         images-read = λ u h. ((end.contents.units u).current, (h, rw (reads-image k last end u h).image (refl, refl)));
         seconded = λ d p.
-            let m = same-decision k last end d p in many-map (same_second k last end d) (seconds-sent l s end.contents (has k last end d m) d m);
+            let m = same-decision k last end d p in many-map (same-second k last end d) (seconds-sent l s end.contents (has k last end d m) d m);
       }
     where
       s : Setup

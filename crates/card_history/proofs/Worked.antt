@@ -14,18 +14,18 @@ use Rattle.contents.specs.Estimates.{mileageOrBlank, mileageOrSplit, secondEstim
 use Rattle.contents.specs.Logs.{stateOk, logOk}
 use Rattle.contents.specs.Images.{every, cellOk, cellsOk, tallyOk, checksAllowed, imageOk, sameSettings, stateFits, fits}
 use Rattle.contents.specs.Messages.{firstOk, checkOk, secondOk, skipOk, kindOk, messageOk}
-use Rattle.formats.specs.Numbers.{num_at, bytes_of}
+use Rattle.formats.specs.Numbers.{numAt, bytesOf}
 use Rattle.formats.specs.Messages.{readMessage, cleared}
-use Rattle.consensus.specs.Conditions.{first_of}
+use Rattle.consensus.specs.Conditions.{firstOf}
 use Rattle.consensus.specs.Units.{atLog, downUnit}
 use Rattle.consensus.specs.Step.{says, logWrite, atRound, fresh, recovered, sendFirst, proposed, takeFirst, onFirst, isFull, takeSecond, countCheck, checksWith}
 use Rattle.consensus.specs.Step.{onCheck, nextProposal, close, countSecond, secondsWith, onSecond, onKind, skip, caughtUp, received}
 use Rattle.consensus.specs.Methods.{forOther, outOfRange, closesLast}
 use Rattle.calls.specs.Calls.{badSettings, badMessage, messageBytes}
 use Rattle.calls.proofs.Examples.{junk}
-use Rattle.cards.specs.Calls.{row_at, wrongCount, namesNoRow, badRowLog, otherRow, badRowImage, cardStartConditions, cardStartCall, cardKeyOnConditions}
+use Rattle.cards.specs.Calls.{rowAt, wrongCount, namesNoRow, badRowLog, otherRow, badRowImage, cardStartConditions, cardStartCall, cardKeyOnConditions}
 use Rattle.cards.specs.Calls.{cardKeyOnCall, cardProposeConditions, cardProposeCall, cardDeliverConditions, cardDeliverCall}
-use Rattle.cards.specs.Rows.{rowLog, rowImage, no_row}
+use Rattle.cards.specs.Rows.{rowLog, rowImage, noRow}
 use Rattle.cards.specs.declared.CardRow.{CardRow}
 use Rattle.agreement.specs.Worlds.{run}
 use Rattle.card_history.specs.Cards.{new, up, CardWorld, begun, CardEvent, start, proposal, delivery, cut, on, next, leave, after, delivering, step}
@@ -36,7 +36,7 @@ out = junk (messageSize today)
 
 -- units 0 and 1 have two rows, the others one
 abbrev cards : ℕ → List CardRow
-cards u = cond (ltb u 2) (no_row ∷ no_row ∷ []) (no_row ∷ [])
+cards u = cond (ltb u 2) (noRow ∷ noRow ∷ []) (noRow ∷ [])
 
 abbrev events : List CardEvent
 events =
@@ -56,7 +56,7 @@ events =
     ∷ delivery 0 4 out
     ∷ delivery 0 5 out
     ∷ delivery 0 1 out
-    ∷ cut 0 3 out no_row
+    ∷ cut 0 3 out noRow
     ∷ delivery 1 4 out
     ∷ delivery 1 5 out
     ∷ on 0 1
@@ -79,16 +79,16 @@ pub record Worked (w : CardWorld) : Type 0 where
       ∷ []
   -- up again after the cut, with the second estimate that the cut delivery logged; and a row that the card does not have
   pub recovered : (w.units 0).stage 1 ≡ up
-  pub logged : (row_at (w.units 0).rows 1).log.second ≡ 412077
-  pub in_image : (row_at (w.units 0).rows 1).image.second ≡ 412077
+  pub logged : (rowAt (w.units 0).rows 1).log.second ≡ 412077
+  pub in-image : (rowAt (w.units 0).rows 1).image.second ≡ 412077
   pub missing : (w.units 2).stage 2 ≡ new
 
 pub computed : Worked (run (step today B 3) (begun cards) events)
 unfolding ones holders allHold common firstPassing leads majority noMarks mark gatheredFrom gathered
     mileageOrBlank mileageOrSplit secondEstimateOk sameMileage stateOk logOk every cellOk cellsOk tallyOk checksAllowed imageOk sameSettings stateFits
-    fits firstOk checkOk secondOk skipOk kindOk messageOk num_at bytes_of readMessage cleared first_of atLog downUnit says logWrite
+    fits firstOk checkOk secondOk skipOk kindOk messageOk numAt bytesOf readMessage cleared firstOf atLog downUnit says logWrite
     atRound fresh recovered sendFirst proposed takeFirst onFirst isFull takeSecond countCheck checksWith onCheck nextProposal close countSecond
     secondsWith onSecond onKind skip caughtUp received forOther outOfRange closesLast rowLog rowImage wrongCount namesNoRow badSettings badRowLog
     otherRow badRowImage badMessage messageBytes cardStartConditions cardStartCall cardKeyOnConditions cardKeyOnCall cardProposeConditions
     cardProposeCall cardDeliverConditions cardDeliverCall run next leave after delivering step
-computed = record { sent = refl; proposed = refl; decided = refl; recovered = refl; logged = refl; in_image = refl; missing = refl }
+computed = record { sent = refl; proposed = refl; decided = refl; recovered = refl; logged = refl; in-image = refl; missing = refl }

@@ -7,7 +7,7 @@ use Rattle.tally.specs.declared.Engine.{Engine}
 use Rattle.contents.specs.declared.Message.{Message}
 use Rattle.formats.specs.Codes.{letterOf, estimateOf}
 use Rattle.formats.specs.Messages.{readMessage}
-use Rattle.cards.specs.Calls.{CardAnswer, Beside, beside, row_at, cardStartCall, cardKeyOnCall, cardProposeCall, cardDeliverCall}
+use Rattle.cards.specs.Calls.{CardAnswer, Beside, beside, rowAt, cardStartCall, cardKeyOnCall, cardProposeCall, cardDeliverCall}
 use Rattle.cards.specs.declared.CardRow.{CardRow}
 use Rattle.agreement.specs.Bytes.{unlessEmpty}
 use Rattle.agreement.specs.Worlds.{Proposal, Decision, put, decision}
@@ -108,7 +108,7 @@ silent rows s = record { rows = rows; stage = s; sent = none; proposed = none; d
 -- row k keeps its log and nothing else, and is down
 abbrev pub turnedOff : List CardRow → ℕ → CardRow → RowOutcome
 turnedOff rows k lost =
-    silent (set rows (k - 1) (record { log = (row_at rows k).log; image = lost.image; checks = lost.checks; seconds = lost.seconds })) down
+    silent (set rows (k - 1) (record { log = (rowAt rows k).log; image = lost.image; checks = lost.checks; seconds = lost.seconds })) down
 
 -- an accepted proposal is recorded; the message that the call stores, unless empty, is kept next. It decides nothing
 abbrev pub hasProposed : ℕ → ℕ → CardAnswer → RowOutcome

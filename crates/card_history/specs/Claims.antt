@@ -1,7 +1,7 @@
 -- What else is claimed of every history of cards: rows that a card does not have, the key of a whole bike, what stays. Assumes nothing.
 use Rattle.std.specs.Prelude.{ℕ, zero, suc, ◌≤◌, ◌≡◌, Bool, false, cond, ◌&&◌, eqb, leb, length}
 use mathlib.Core.List.{List, [], ◌∷◌, Memᴰ}
-use Rattle.cards.specs.Calls.{namesNoRow, row_at}
+use Rattle.cards.specs.Calls.{namesNoRow, rowAt}
 use Rattle.cards.specs.declared.CardRow.{CardRow}
 use Rattle.agreement.specs.Worlds.{Proposal, Decision}
 use Rattle.card_history.specs.Cards.{Stage, new, up, down, OfEntry, CardWorld, CardEvent, off, isNew}
@@ -26,8 +26,8 @@ lowered down = down
 -- from w to w' each of these rows of unit u that was up is down; logs, other rows and other units stay, and nothing is sent, proposed or decided
 pub record RowsOff (u : ℕ) (these : ℕ → Bool) (w w' : CardWorld) : Type 0 where
   pub stages : (j : ℕ) → (w'.units u).stage j ≡ cond (these j) (lowered ((w.units u).stage j)) ((w.units u).stage j)
-  pub logs : (j : ℕ) → (row_at (w'.units u).rows j).log ≡ (row_at (w.units u).rows j).log
-  pub rows : (j : ℕ) → 1 ≤ j → these j ≡ false → row_at (w'.units u).rows j ≡ row_at (w.units u).rows j
+  pub logs : (j : ℕ) → (rowAt (w'.units u).rows j).log ≡ (rowAt (w.units u).rows j).log
+  pub rows : (j : ℕ) → 1 ≤ j → these j ≡ false → rowAt (w'.units u).rows j ≡ rowAt (w.units u).rows j
   pub others : (v : ℕ) → eqb v u ≡ false → w'.units v ≡ w.units v
   pub sent : w'.sent ≡ w.sent
   pub proposed : w'.proposed ≡ w.proposed

@@ -8,7 +8,7 @@ use Rattle.tally.specs.declared.Engine.{Engine}
 use Rattle.contents.specs.declared.Message.{Message}
 use Rattle.contents.specs.declared.State.{State}
 use Rattle.formats.specs.Messages.{readMessage}
-use Rattle.cards.specs.Calls.{row_at}
+use Rattle.cards.specs.Calls.{rowAt}
 use Rattle.cards.specs.Rows.{rowLog, rowImage}
 use Rattle.cards.specs.declared.CardRow.{CardRow}
 use Rattle.agreement.specs.Worlds.{World, Decision, run, Given, Locked, View, Many, Seconded}
@@ -44,10 +44,10 @@ abbrev pub view : Limits → ℕ → View CardUnit (List ℕ)
 view l k =
     record {
       HasLog = λ x s.
-          (isNew (x.stage k) ≡ false) × (((rowLog l (row_at x.rows k)).number ≡ 0) × ((rowLog l (row_at x.rows k)).contents.state ≡ s));
+          (isNew (x.stage k) ≡ false) × (((rowLog l (rowAt x.rows k)).number ≡ 0) × ((rowLog l (rowAt x.rows k)).contents.state ≡ s));
       IsUp = λ x. isUp (x.stage k) ≡ true;
       HasImage = λ x s.
-          (isUp (x.stage k) ≡ true) × (((rowImage l (row_at x.rows k)).number ≡ 0) × ((rowImage l (row_at x.rows k)).contents.state ≡ s));
+          (isUp (x.stage k) ≡ true) × (((rowImage l (rowAt x.rows k)).number ≡ 0) × ((rowImage l (rowAt x.rows k)).contents.state ≡ s));
       Reads = λ bs m. entryMessage l k bs ≡ some m;
     }
 
@@ -55,12 +55,12 @@ view l k =
 
 module _ (l : Limits) (g : Engine) (n k : ℕ) where
   -- entry k at the end of the events es from the world w on
-  abbrev pub run_at : CardWorld → List CardEvent → World CardUnit (List ℕ)
-  run_at w es = readAt k (run (step l g n) w es)
+  abbrev pub runAt : CardWorld → List CardEvent → World CardUnit (List ℕ)
+  runAt w es = readAt k (run (step l g n) w es)
 
   -- d is among the decisions of the entry reported by then, those of w too
   abbrev pub Reported : CardWorld → List CardEvent → Decision → Type 0
-  Reported w es d = Memᴰ d (run_at w es).decided
+  Reported w es d = Memᴰ d (runAt w es).decided
 
   -- demand 3 of entry k, of the events es from the world w on: the claims of agreement's `Agreed`, of every unit whose row k is started
   pub record AgreedAt (w : CardWorld) (es : List CardEvent) : Type 0 where
@@ -69,18 +69,18 @@ module _ (l : Limits) (g : Engine) (n k : ℕ) where
     -- each was proposed before: the mileage of each decision reported by an event was given by an accepted proposal event of the entry before
     -- that event
     pub proposed : (before after : List CardEvent) (e : CardEvent) → es ≡ before ++ (e ∷ after) → (d : Decision)
-        → Reported w (before ++ (e ∷ [])) d → Given d.mileage (run_at w before)
+        → Reported w (before ++ (e ∷ [])) d → Given d.mileage (runAt w before)
     -- no log, at any time, in a round above a decision's has another proposal
-    pub logs : (before after : List CardEvent) → es ≡ before ++ after → (u : ℕ) (s : State) → (view l k).HasLog ((run_at w before).units u) s
+    pub logs : (before after : List CardEvent) → es ≡ before ++ after → (u : ℕ) (s : State) → (view l k).HasLog ((runAt w before).units u) s
         → (d : Decision) → Reported w es d → Locked d s
     -- and no image of an up row
-    pub images : (before after : List CardEvent) → es ≡ before ++ after → (u : ℕ) (s : State) → (view l k).HasImage ((run_at w before).units u) s
+    pub images : (before after : List CardEvent) → es ≡ before ++ after → (u : ℕ) (s : State) → (view l k).HasImage ((runAt w before).units u) s
         → (d : Decision) → Reported w es d → Locked d s
     -- of every started row these two speak: its log is read, and while it is up its image
-    pub logs-read : (u : ℕ) → isNew (((run_at w es).units u).stage k) ≡ false → (s : State) × (view l k).HasLog ((run_at w es).units u) s
-    pub images-read : (u : ℕ) → (view l k).IsUp ((run_at w es).units u) → (s : State) × (view l k).HasImage ((run_at w es).units u) s
+    pub logs-read : (u : ℕ) → isNew (((runAt w es).units u).stage k) ≡ false → (s : State) × (view l k).HasLog ((runAt w es).units u) s
+    pub images-read : (u : ℕ) → (view l k).IsUp ((runAt w es).units u) → (s : State) × (view l k).HasImage ((runAt w es).units u) s
     -- a decision's round is the one whose SECONDs agreed: a quorum of units has sent them
-    pub seconded : (d : Decision) → Reported w es d → Many n (quorumOf g n) (Seconded (view l k) (run_at w es) d)
+    pub seconded : (d : Decision) → Reported w es d → Many n (quorumOf g n) (Seconded (view l k) (runAt w es) d)
 
 -- for every engine and n, whatever the cards hold at the beginning, for every list of events, and for every entry: decisions are the same, each
 -- was proposed before, logs and images in a round above a decision's have its proposal, all are read, and a quorum of SECONDs agreed

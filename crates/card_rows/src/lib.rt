@@ -1,4 +1,6 @@
 // A card's row as numbers, read and written: its log, its image, and the row of a unit.
+#![tactic(auto)]
+
 ghost use Rattle.std.specs.Prelude.{◌≡◌, true, ◌<◌, ◌^◌, get_or};
 ghost use Rattle.tally.specs.Limits.{today, senders};
 ghost use Rattle.contents.specs.Estimates.{isBlank};
@@ -9,7 +11,7 @@ ghost use Rattle.formats.specs.InnerImages.{fitState};
 ghost use Rattle.formats.specs.Logs.{logOf, logFormat};
 ghost use Rattle.consensus.specs.Units.{upUnit};
 ghost use Rattle.calls.specs.InnerFields.{logNarrow};
-ghost use Rattle.cards.specs.Rows.{numbersOf, marksFit, rowTally, rowImage, logFieldsOf, tallyFieldsOf, row_of};
+ghost use Rattle.cards.specs.Rows.{numbersOf, marksFit, rowTally, rowImage, logFieldsOf, tallyFieldsOf, rowOf};
 ghost use Rattle.cards.specs.InnerSteps.{logReadOf, unmarkedRow, rowFits};
 
 use cards::{CardRow, LogFields, TallyFields};
@@ -238,7 +240,7 @@ pub fn row_of(
     checks: Tally,
     seconds: Tally,
 ) -> CardRow
-    ensures { result ≡ row_of (upUnit (record { settings = settings; state = logged })
+    ensures { result ≡ rowOf (upUnit (record { settings = settings; state = logged })
         (record { settings = settings; state = current; checks = checks; seconds = seconds })) }
 {
     CardRow {

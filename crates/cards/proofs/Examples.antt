@@ -12,9 +12,9 @@ use Rattle.contents.specs.Estimates.{mileageOrBlank, mileageOrSplit, secondEstim
 use Rattle.contents.specs.Logs.{stateOk, logOk}
 use Rattle.contents.specs.Images.{every, cellOk, cellsOk, tallyOk, checksAllowed, imageOk, sameSettings, stateFits, fits}
 use Rattle.contents.specs.Messages.{firstOk, checkOk, secondOk, skipOk, kindOk, messageOk}
-use Rattle.formats.specs.Numbers.{num_at, bytes_of}
+use Rattle.formats.specs.Numbers.{numAt, bytesOf}
 use Rattle.formats.specs.Messages.{readMessage, cleared}
-use Rattle.consensus.specs.Conditions.{first_of}
+use Rattle.consensus.specs.Conditions.{firstOf}
 use Rattle.consensus.specs.Units.{atLog, downUnit}
 use Rattle.consensus.specs.Step.{says, logWrite, fresh, recovered, sendFirst, proposed, takeFirst, onFirst, isFull, nextProposal, close, countSecond}
 use Rattle.consensus.specs.Step.{secondsWith, onSecond, onKind, atRound, caughtUp, received}
@@ -24,7 +24,7 @@ use Rattle.calls.proofs.Examples.{B, R, F, S, C, K, two, mileage, blank, junk}
 use Rattle.cards.specs.Calls.{CardAnswer, cardCalled, wrongCount, namesNoRow, Beside, beside, badRowLog, otherRow, badRowImage, cardStartConditions}
 use Rattle.cards.specs.Calls.{cardStartCall, cardKeyOnConditions, cardKeyOnCall, cardProposeConditions, cardProposeCall, cardDeliverConditions}
 use Rattle.cards.specs.Calls.{cardDeliverCall}
-use Rattle.cards.specs.Rows.{rowLog, rowImage, no_row}
+use Rattle.cards.specs.Rows.{rowLog, rowImage, noRow}
 use Rattle.cards.specs.declared.CardRow.{CardRow}
 use Rattle.cards.specs.declared.LogFields.{LogFields}
 use Rattle.cards.specs.declared.TallyFields.{TallyFields}
@@ -80,7 +80,7 @@ b = beside B 3 0
 
 -- three rows, the second of which is read
 abbrev card : CardRow → List CardRow
-card r = no_row ∷ r ∷ no_row ∷ []
+card r = noRow ∷ r ∷ noRow ∷ []
 
 -- kind, engine, n, receiver, entry, round, of the mileage 5 from unit 1
 abbrev message : ℕ → ℕ → ℕ → ℕ → ℕ → ℕ → List ℕ
@@ -94,15 +94,15 @@ zeros = replicate 18 0
 
 -- ---- the table
 
-abbrev rows_of : CallOnCard → List CardRow
-rows_of (start b rows k) = rows
-rows_of (keyOn b rows k) = rows
-rows_of (propose b rows k v out) = rows
-rows_of (deliver b rows bs out) = rows
+abbrev rowsOf : CallOnCard → List CardRow
+rowsOf (start b rows k) = rows
+rowsOf (keyOn b rows k) = rows
+rowsOf (propose b rows k v out) = rows
+rowsOf (deliver b rows bs out) = rows
 
 -- refused with this number, and the output buffer holds this
 abbrev refused : ℕ → List ℕ → CallOnCard → Case
-refused k out c = record { call = c; expected = cardCalled k (rows_of c) out none }
+refused k out c = record { call = c; expected = cardCalled k (rowsOf c) out none }
 
 abbrev gives : CallOnCard → List CardRow → List ℕ → Case
 gives c rows out = record { call = c; expected = cardCalled 0 rows out none }
@@ -116,33 +116,33 @@ proposes v r = propose b (card r) 2 v (junk 18)
 abbrev pub cases : List Case
 cases =
     -- a start reads no row, and writes one
-    gives (start b (card no_row) 2) (card (new 2)) []
+    gives (start b (card noRow) 2) (card (new 2)) []
     ∷ gives (start b (new 5 ∷ []) 1) (new 1 ∷ []) []
-    ∷ gives (start b (replicate 63 no_row ++ (no_row ∷ [])) 64) (replicate 63 no_row ++ (new 64 ∷ [])) []
+    ∷ gives (start b (replicate 63 noRow ++ (noRow ∷ [])) 64) (replicate 63 noRow ++ (new 64 ∷ [])) []
     -- 1: a count of rows outside 1 to 64, before 12 and 2
     ∷ refused 1 [] (start (beside B 2 0) [] 0)
-    ∷ refused 1 [] (start b (replicate 65 no_row) 1)
+    ∷ refused 1 [] (start b (replicate 65 noRow) 1)
     -- 12: no row has the number, before 2
-    ∷ refused 12 [] (start (beside B 2 0) (card no_row) 0)
-    ∷ refused 12 [] (start b (card no_row) 4)
-    ∷ refused 12 [] (start b (replicate 64 no_row) 65)
-    ∷ refused 12 [] (start b (card no_row) 4294967295)
+    ∷ refused 12 [] (start (beside B 2 0) (card noRow) 0)
+    ∷ refused 12 [] (start b (card noRow) 4)
+    ∷ refused 12 [] (start b (replicate 64 noRow) 65)
+    ∷ refused 12 [] (start b (card noRow) 4294967295)
     -- 2: engine, n or unit out of range; nothing is cut
-    ∷ refused 2 [] (start (beside 90 3 0) (card no_row) 2)
-    ∷ refused 2 [] (start (beside B 2 0) (card no_row) 2)
-    ∷ refused 2 [] (start (beside B 259 0) (card no_row) 2)
-    ∷ refused 2 [] (start (beside B 3 3) (card no_row) 2)
+    ∷ refused 2 [] (start (beside 90 3 0) (card noRow) 2)
+    ∷ refused 2 [] (start (beside B 2 0) (card noRow) 2)
+    ∷ refused 2 [] (start (beside B 259 0) (card noRow) 2)
+    ∷ refused 2 [] (start (beside B 3 3) (card noRow) 2)
     -- key-on reads the row's log alone
     ∷ gives (keyOn b (card (record { log = fields 2 4 6 7; image = ofFive; checks = marked 65536 []; seconds = marked 9 blanks })) 2)
     (card (row (fields 2 4 6 7) (fields 2 4 6 7))) []
     -- 2: the row's log malformed; 3: of other settings, or of another entry than the row's number
-    ∷ refused 2 [] (keyOn b (card no_row) 2)
+    ∷ refused 2 [] (keyOn b (card noRow) 2)
     ∷ refused 2 [] (keyOn (beside B 3 3) (card (row ofFive ofFive)) 2)
     ∷ refused 3 [] (keyOn b (card (row ofFive ofFive)) 2)
     ∷ refused 3 [] (keyOn (beside R 3 0) (card (new 2)) 2)
     ∷ refused 3 [] (keyOn (beside B 3 1) (card (new 2)) 2)
     ∷ refused 3 [] (keyOn b (card (new 1)) 2)
-    ∷ refused 12 [] (keyOn b (card no_row) 0)
+    ∷ refused 12 [] (keyOn b (card noRow) 0)
     ∷ refused 1 [] (keyOn b [] 0)
     -- a proposal writes the row's image, and no log
     ∷ gives (proposes 6 (new 2)) (card (row (fields 2 0 none none) (fields 2 0 6 none)))
@@ -153,11 +153,11 @@ cases =
     ∷ refused 3 zeros (proposes 6 (tallied 0 0 65536 blanks))
     ∷ refused 3 zeros (proposes 6 (row (fields 2 0 none none) ofFive))
     ∷ refused 3 zeros (proposes 6 (row (fields 2 1 none none) (fields 2 0 none none)))
-    ∷ refused 2 zeros (proposes 10000000 (row no_row.log ofFive))
+    ∷ refused 2 zeros (proposes 10000000 (row noRow.log ofFive))
     ∷ refused 3 zeros (proposes 10000000 (new 1))
     ∷ refused 2 zeros (propose (beside B 2 0) (card (row ofFive ofFive)) 2 10000000 (junk 18))
     ∷ refused 12 zeros (propose (beside 90 3 0) (card (new 2)) 4 10000000 (junk 18))
-    ∷ refused 1 zeros (propose (beside 90 3 0) (replicate 65 no_row) 66 10000000 (junk 18))
+    ∷ refused 1 zeros (propose (beside 90 3 0) (replicate 65 noRow) 66 10000000 (junk 18))
     ∷ refused 1 (junk 17) (propose (beside 90 3 0) (card (new 2)) 4 6 (junk 17))
     -- a FIRST is logged in the row of its entry, and answered with CHECK
     ∷ gives (delivers (first 2) (new 2)) (card (row (fields 2 0 none 5) (fields 2 0 none 5)))
@@ -167,11 +167,11 @@ cases =
     ∷ refused 1 zeros (deliver b (card (new 2)) (junk 17) (junk 18))
     ∷ refused 1 (junk 17) (deliver b (card (new 2)) (first 2) (junk 17))
     ∷ refused 4 zeros (delivers (message F B 3 255 0 0) (new 2))
-    ∷ refused 4 zeros (deliver (beside 90 3 0) (card no_row) (message 0 B 3 255 9 0) (junk 18))
-    ∷ refused 12 zeros (deliver (beside 90 3 0) (card no_row) (first 4) (junk 18))
+    ∷ refused 4 zeros (deliver (beside 90 3 0) (card noRow) (message 0 B 3 255 9 0) (junk 18))
+    ∷ refused 12 zeros (deliver (beside 90 3 0) (card noRow) (first 4) (junk 18))
     ∷ refused 12 zeros (delivers (first 9999) (new 2))
     ∷ refused 2 zeros (deliver (beside 90 3 0) (card (row ofFive ofFive)) (message F R 3 255 2 0) (junk 18))
-    ∷ refused 2 zeros (delivers (message F R 3 255 2 0) no_row)
+    ∷ refused 2 zeros (delivers (message F R 3 255 2 0) noRow)
     ∷ refused 3 zeros (delivers (message F R 3 255 2 0) (new 1))
     ∷ refused 3 zeros (delivers (message F R 3 255 2 0) (row (fields 2 0 none none) ofFive))
     ∷ refused 5 zeros (delivers (message F R 3 255 2 0) (new 2))
@@ -189,16 +189,16 @@ cases =
     ∷ []
 
 -- lists that are the same have the same elements
-each_same : (cs : List Case) → map (λ c. answer c.call) cs ≡ map (λ c. c.expected) cs → Each (λ c. answer c.call ≡ c.expected) cs
-each_same [] e = tt
-each_same (c ∷ cs) e = (ap (λ (l : List CardAnswer). get_or l 0 c.expected) e, each_same cs (ap (drop 1) e))
+each-same : (cs : List Case) → map (λ c. answer c.call) cs ≡ map (λ c. c.expected) cs → Each (λ c. answer c.call ≡ c.expected) cs
+each-same [] e = tt
+each-same (c ∷ cs) e = (ap (λ (l : List CardAnswer). get_or l 0 c.expected) e, each-same cs (ap (drop 1) e))
 
-pub all_hold : Each (λ c. answer c.call ≡ c.expected) cases
+pub all-hold : Each (λ c. answer c.call ≡ c.expected) cases
 unfolding ones noMarks mark mileageOrBlank mileageOrSplit secondEstimateOk sameMileage
-    stateOk logOk every cellOk cellsOk tallyOk checksAllowed imageOk sameSettings stateFits fits firstOk checkOk secondOk skipOk kindOk messageOk num_at
-    bytes_of readMessage cleared first_of atLog downUnit says logWrite fresh recovered sendFirst proposed takeFirst onFirst isFull secondsWith onKind caughtUp
+    stateOk logOk every cellOk cellsOk tallyOk checksAllowed imageOk sameSettings stateFits fits firstOk checkOk secondOk skipOk kindOk messageOk numAt
+    bytesOf readMessage cleared firstOf atLog downUnit says logWrite fresh recovered sendFirst proposed takeFirst onFirst isFull secondsWith onKind caughtUp
     atRound nextProposal close countSecond onSecond common allHold firstPassing lowest gatheredFrom gathered
     received forOther outOfRange closesLast badSettings badMessage messageBytes wrongCount namesNoRow badRowLog otherRow badRowImage
     cardStartConditions cardStartCall cardKeyOnConditions cardKeyOnCall cardProposeConditions cardProposeCall cardDeliverConditions cardDeliverCall
     rowLog rowImage
-all_hold = each_same cases refl
+all-hold = each-same cases refl

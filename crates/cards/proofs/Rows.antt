@@ -10,7 +10,7 @@ use borrow.Author.Tests.{lt-ltb}
 use Rattle.tally.specs.Limits.{Limits, Sane}
 use Rattle.tally.specs.declared.Engine.{Engine}
 use Rattle.tally.specs.declared.Tally.{Tally}
-use Rattle.contents.specs.Estimates.{is_b}
+use Rattle.contents.specs.Estimates.{isB}
 use Rattle.contents.specs.Images.{imageOk, imageLog, sameSettings, fits}
 use Rattle.contents.specs.Logs.{logOk}
 use Rattle.contents.specs.declared.Image.{Image}
@@ -18,7 +18,7 @@ use Rattle.contents.specs.declared.Log.{Log}
 use Rattle.contents.specs.declared.Settings.{Settings}
 use Rattle.contents.proofs.Facts.{image-facts}
 use Rattle.contents.proofs.Same.{same-settings}
-use Rattle.contents.proofs.Tests.{both_true}
+use Rattle.contents.proofs.Tests.{both-true}
 use Rattle.formats.specs.Codes.{engineOf, withEngine}
 use Rattle.formats.specs.Formats.{reading, checked}
 use Rattle.formats.specs.Images.{withTallies, imageFormat}
@@ -27,28 +27,28 @@ use Rattle.formats.specs.declared.EngineRead.{EngineRead}
 use Rattle.formats.specs.declared.EngineRead.TheVariants.{Is, Unknown}
 use Rattle.formats.proofs.ImageFormat.{numbers-tally, known-cells, tally-back}
 use Rattle.formats.proofs.Letters.{engine-letter}
-use Rattle.formats.proofs.LogFormat.{numbers_of, of-numbers, lawful}
+use Rattle.formats.proofs.LogFormat.{numbers-of, of-numbers, lawful}
 use Rattle.formats.proofs.RoundTrips.{from-numbers}
 use Rattle.consensus.specs.Units.{unitLog, unitImage, WellFormed}
 use Rattle.consensus.specs.declared.Unit as U
-use Rattle.cards.specs.Rows.{numbersOf, logFieldsOf, marksFit, tallyFieldsOf, rowTally, imageWith, rowLog, rowImage, rowUnit, row_of}
+use Rattle.cards.specs.Rows.{numbersOf, logFieldsOf, marksFit, tallyFieldsOf, rowTally, imageWith, rowLog, rowImage, rowUnit, rowOf}
 use Rattle.cards.specs.declared.CardRow.{CardRow}
 use Rattle.cards.specs.declared.LogFields.{LogFields}
 use Rattle.cards.specs.declared.TallyFields.{TallyFields}
 
 -- ---- from a unit to its row and back
 
-pub row_back : (l : Limits) → Sane l → (x : U.Unit) → WellFormed l x
-    → (rowLog l (row_of x) ≡ reading 0 (unitLog x)) × (rowImage l (row_of x) ≡ reading 0 (unitImage x))
+pub row-back : (l : Limits) → Sane l → (x : U.Unit) → WellFormed l x
+    → (rowLog l (rowOf x) ≡ reading 0 (unitLog x)) × (rowImage l (rowOf x) ≡ reading 0 (unitImage x))
 unfolding rowLog rowImage
-row_back l sane x wf =
+row-back l sane x wf =
     let i = unitImage x in
     let f = image-facts l i wf.image in
     let g = x.settings.engine in
     let c = tally-back l sane x.checks wf.checks (known-cells l sane false g x.settings.n x.checks f.checks wf.checks) in
     let s = tally-back l sane x.seconds wf.seconds
-    (known-cells l sane (is_b g) g x.settings.n x.seconds f.seconds wf.seconds) in
-    let same : imageWith (row_of x) g (numbersOf (row_of x).image) ≡ i =
+    (known-cells l sane (isB g) g x.settings.n x.seconds f.seconds wf.seconds) in
+    let same : imageWith (rowOf x) g (numbersOf (rowOf x).image) ≡ i =
     ap (λ (r : Log). withTallies r (rowTally (tallyFieldsOf x.checks)) (rowTally (tallyFieldsOf x.seconds)))
     (of-numbers l sane (imageLog i) f.log)
     ∙ ap₂ (λ (y z : Tally). withTallies (imageLog i) y z) c s in
@@ -75,8 +75,8 @@ fieldsFrom vs =
     }
 
 -- a log made of fields has these fields
-fields_back : (f : LogFields) (e : Engine) → engineOf f.engine ≡ Is e → logFieldsOf (logOf e (numbersOf f)) ≡ f
-fields_back f e p = ap fieldsFrom (numbers_of e (numbersOf f) refl p)
+fields-back : (f : LogFields) (e : Engine) → engineOf f.engine ≡ Is e → logFieldsOf (logOf e (numbersOf f)) ≡ f
+fields-back f e p = ap fieldsFrom (numbers-of e (numbersOf f) refl p)
 
 abbrev tallyFieldsFrom : List ℕ → TallyFields
 tallyFieldsFrom vs = record { marks = get_or vs 0 0; estimates = drop 1 vs }
@@ -96,7 +96,7 @@ module _ (l : Limits) (r : CardRow) where
         where
           by : (b : Bool) → logOk l (logOf e (numbersOf r.log)) ≡ b → (checked (logFormat l) (some (logOf e (numbersOf r.log)))).number ≡ 0
               → logFieldsOf (checked (logFormat l) (some (logOf e (numbersOf r.log)))).contents ≡ r.log
-          by true ok z = rw ok (fields_back r.log e p)
+          by true ok z = rw ok (fields-back r.log e p)
           by false ok z = absurd (omega (arith, rw ok at z))
 
   -- an image that is read from the row
@@ -122,20 +122,20 @@ module _ (l : Limits) (r : CardRow) where
           by : (b : Bool) → imageOk l (imageWith r e (numbersOf r.image)) ≡ b
               → (checked (imageFormat l) (some (imageWith r e (numbersOf r.image)))).number ≡ 0
               → OfRow (checked (imageFormat l) (some (imageWith r e (numbersOf r.image)))).contents
-          by true ok z = rw ok (record { image = fields_back r.image e p; checks-fit = f; seconds-fit = h; checks = refl; seconds = refl })
+          by true ok z = rw ok (record { image = fields-back r.image e p; checks-fit = f; seconds-fit = h; checks = refl; seconds = refl })
           by false ok z = absurd (omega (arith, rw ok at z))
 
   -- the row of the unit that a row holds is that row
   pub row-forth : (rowLog l r).number ≡ 0 → (rowImage l r).number ≡ 0 → fits (rowImage l r).contents (rowLog l r).contents ≡ true
-      → row_of (rowUnit l r) ≡ r
+      → rowOf (rowUnit l r) ≡ r
   unfolding fits
   row-forth z y f =
       let b = image-forth y in
       let s = same-settings (rowImage l r).contents.settings (rowLog l r).contents.settings
-      (both_true (sameSettings (rowImage l r).contents.settings (rowLog l r).contents.settings) _ f).0 in
+      (both-true (sameSettings (rowImage l r).contents.settings (rowLog l r).contents.settings) _ f).0 in
       let i : logFieldsOf (record { settings = (rowLog l r).contents.settings; state = (rowImage l r).contents.state }) ≡ r.image =
       ap (λ (q : Settings). logFieldsOf (record { settings = q; state = (rowImage l r).contents.state })) (sym s) ∙ b.image in
-      let w = row_of (rowUnit l r) in
+      let w = rowOf (rowUnit l r) in
       ap (λ (f : LogFields). record { log = f; image = w.image; checks = w.checks; seconds = w.seconds }) (log-forth z)
       ∙ ap (λ (f : LogFields). record { log = r.log; image = f; checks = w.checks; seconds = w.seconds }) i
       ∙ ap₂ (λ (c s : TallyFields). record { log = r.log; image = r.image; checks = c; seconds = s })

@@ -11,7 +11,7 @@ use lib.ListN.{length, get_or, take, set, length-map}
 use lib.Seq.{take-suc, take-suc-set, take_all}
 use borrow.Author.Tests.{eqb-true, leb-true, eq-eqb, ne_eqb}
 use Rattle.tally.specs.Limits.{Limits, today}
-use Rattle.tally.specs.Refusal.{number_of}
+use Rattle.tally.specs.Refusal.{numberOf}
 use Rattle.tally.specs.Tally.{blankCell, estimateAt}
 use Rattle.tally.specs.declared.Cell.{Cell}
 use Rattle.tally.specs.declared.Refusal.{Refusal}
@@ -21,10 +21,10 @@ use Rattle.contents.specs.Logs.{logOk}
 use Rattle.contents.specs.declared.Log.{Log}
 use Rattle.contents.specs.declared.Settings.{Settings}
 use Rattle.contents.specs.declared.State.{State}
-use Rattle.contents.proofs.Tests.{both_true}
+use Rattle.contents.proofs.Tests.{both-true}
 use Rattle.formats.specs.Codes.{engineOf, withEngine, estimateOf}
 use Rattle.formats.specs.Formats.{ReadAnswer, reading, checked, fromNumbers}
-use Rattle.formats.specs.Images.{cell_of, imageFormat, noImage}
+use Rattle.formats.specs.Images.{cellOf, imageFormat, noImage}
 use Rattle.formats.specs.InnerImages.{fitState}
 use Rattle.formats.specs.Logs.{logFormat, logOf, noLog}
 use Rattle.formats.specs.declared.EngineRead.{EngineRead}
@@ -32,7 +32,7 @@ use Rattle.formats.specs.declared.EngineRead.TheVariants.{Is, Unknown}
 use Rattle.formats.specs.declared.LogRead.{LogRead}
 use Rattle.formats.specs.declared.StateRead.{StateRead}
 use Rattle.formats.proofs.Places.{fit-checked}
-use Rattle.consensus.specs.Conditions.{Condition, condition, first_of}
+use Rattle.consensus.specs.Conditions.{Condition, condition, firstOf}
 use Rattle.consensus.specs.Methods.{unless, refuses, propose, deliver}
 use Rattle.consensus.specs.Step.{quiet, fresh, recovered}
 use Rattle.consensus.specs.Units.{unitLog, upUnit, atLog, downUnit}
@@ -42,8 +42,8 @@ use Rattle.consensus.proofs.Answers.{plain-proposed, plain-received}
 use Rattle.cards.specs.Calls.{wrongCount, namesNoRow, badBeside, settingsOfRow, badRowLog, otherRow, badRowImage}
 use Rattle.cards.specs.InnerSteps.{logReadOf, besideOf, settingsRead, ownLog, unmarkedRow, rowFits, unitConditions, unitAnswer, takes}
 use Rattle.cards.specs.InnerSteps.{stepConditions, stepAnswer, tells, told, rowAnswer, rowAnswered, unlessRow, actOf, withLog, isShort}
-use Rattle.cards.specs.InnerSteps.{isMalformed, frontConditions, front, place_of}
-use Rattle.cards.specs.Rows.{numbersOf, marksFit, rowTally, imageWith, rowLog, rowImage, rowUnit, row_of}
+use Rattle.cards.specs.InnerSteps.{isMalformed, frontConditions, front, placeOf}
+use Rattle.cards.specs.Rows.{numbersOf, marksFit, rowTally, imageWith, rowLog, rowImage, rowUnit, rowOf}
 use Rattle.cards.specs.declared.Act.{Act}
 use Rattle.cards.specs.declared.CardCall.{CardCall}
 use Rattle.cards.specs.declared.CardRow.{CardRow}
@@ -61,13 +61,13 @@ module _ {A B : Type 0} (f : A → B) where
   map-append [] ys = refl
   map-append (x ∷ xs) ys = ap (λ zs. f x ∷ zs) (map-append xs ys)
 
-  pub one_more : (i : ℕ) (xs : List A) (ys : List B) (d : A) (y : B) → i < length xs → i < length ys → y ≡ f (get_or xs i d)
+  pub one-more : (i : ℕ) (xs : List A) (ys : List B) (d : A) (y : B) → i < length xs → i < length ys → y ≡ f (get_or xs i d)
       → take i ys ≡ map f (take i xs) → take (i + 1) (set ys i y) ≡ map f (take (i + 1) xs)
-  one_more i xs ys d y bx by e t = rw (add-one, take-suc-set ys i y by, take-suc xs i d bx, map-append (take i xs) (get_or xs i d ∷ []), t, e)
+  one-more i xs ys d y bx by e t = rw (add-one, take-suc-set ys i y by, take-suc xs i d bx, map-append (take i xs) (get_or xs i d ∷ []), t, e)
 
-  pub all_done : (i k : ℕ) (xs : List A) (ys : List B) → i ≡ k → length xs ≡ k → length ys ≡ k → take i ys ≡ map f (take i xs)
+  pub all-done : (i k : ℕ) (xs : List A) (ys : List B) → i ≡ k → length xs ≡ k → length ys ≡ k → take i ys ≡ map f (take i xs)
       → ys ≡ map f xs
-  all_done i k xs ys e lx ly t =
+  all-done i k xs ys e lx ly t =
       let tx : take i xs ≡ xs = take_all i xs (omega (arith, lx, e)) in
       let ty : take i ys ≡ ys = take_all i ys (omega (arith, ly, e)) in
       sym ty ∙ t ∙ ap (map f) tx
@@ -77,7 +77,7 @@ pub unmapped : (X Y : Type 0) (f : X → Y) (l : List X) (n : ℕ) → length (m
 unmapped X Y f l n e = sym (length-map l f) ∙ e
 
 -- the estimate of a sender, in a row
-row-cell : (es : List ℕ) (k : ℕ) → k < length es → get_or (map cell_of es) k blankCell ≡ cell_of (get_or es k 0)
+row-cell : (es : List ℕ) (k : ℕ) → k < length es → get_or (map cellOf es) k blankCell ≡ cellOf (get_or es k 0)
 row-cell [] k h = absurd (omega arith)
 row-cell (e ∷ es) zero h = refl
 row-cell (e ∷ es) (suc k) h = row-cell es k (omega arith)
@@ -88,25 +88,25 @@ row-estimate f k h = ap (λ (c : Cell). c.estimate) (row-cell f.estimates k h)
 -- ---- which row
 
 -- a call that is not refused before any row is read names one
-pub front-row : (c : CardCall) (count : ℕ) → number_of (front c count) ≡ 0 → (1 ≤ c.row) × (c.row ≤ count)
-unfolding front frontConditions first_of namesNoRow
+pub front-row : (c : CardCall) (count : ℕ) → numberOf (front c count) ≡ 0 → (1 ≤ c.row) × (c.row ≤ count)
+unfolding front frontConditions firstOf namesNoRow
 front-row c count h = go (wrongCount count || isShort c.act) (isMalformed c.act) (leb 1 c.row && leb c.row count) refl h
   where
     go : (a b d : Bool) → (leb 1 c.row && leb c.row count) ≡ d
-        → number_of (cond a Refusal.Length (cond b Refusal.Message (cond (not d) Refusal.Row Refusal.None))) ≡ 0
+        → numberOf (cond a Refusal.Length (cond b Refusal.Message (cond (not d) Refusal.Row Refusal.None))) ≡ 0
         → (1 ≤ c.row) × (c.row ≤ count)
     go true b d e z = absurd (omega (arith, z))
     go false true d e z = absurd (omega (arith, z))
     go false false false e z = absurd (omega (arith, z))
-    go false false true e z = let t = both_true (leb 1 c.row) (leb c.row count) e in (leb-true _ _ t.0, leb-true _ _ t.1)
+    go false false true e z = let t = both-true (leb 1 c.row) (leb c.row count) e in (leb-true _ _ t.0, leb-true _ _ t.1)
 
-pub place_at : (c : CardCall) (count : ℕ) → number_of (front c count) ≡ 0 → place_of c count ≡ c.row - 1
-unfolding place_of
-place_at c count z = rw (eq-eqb _ _ z)
+pub place-at : (c : CardCall) (count : ℕ) → numberOf (front c count) ≡ 0 → placeOf c count ≡ c.row - 1
+unfolding placeOf
+place-at c count z = rw (eq-eqb _ _ z)
 
-pub place_none : (c : CardCall) (count : ℕ) → (number_of (front c count) ≡ 0 → ⊥) → place_of c count ≡ count
-unfolding place_of
-place_none c count z = rw (ne_eqb _ _ z)
+pub place-none : (c : CardCall) (count : ℕ) → (numberOf (front c count) ≡ 0 → ⊥) → placeOf c count ≡ count
+unfolding placeOf
+place-none c count z = rw (ne_eqb _ _ z)
 
 -- ---- what was read
 
@@ -118,9 +118,9 @@ abbrev theSettings : Settings → SettingsRead → Settings
 theSettings d SettingsRead.Bad = d
 theSettings d (SettingsRead.Are s) = s
 
-abbrev is_refused : LogRead → Bool
-is_refused (LogRead.Read g) = false
-is_refused (LogRead.Refused k) = true
+abbrev isRefused : LogRead → Bool
+isRefused (LogRead.Read g) = false
+isRefused (LogRead.Refused k) = true
 
 abbrev theLog : Log → LogRead → Log
 theLog d (LogRead.Read g) = g
@@ -158,7 +158,7 @@ log-refused x k e = go (eqb x.number 0) refl e
   where
     go : (t : Bool) → eqb x.number 0 ≡ t → cond t (LogRead.Read x.contents) (LogRead.Refused Refusal.Log) ≡ LogRead.Refused k
         → eqb x.number 0 ≡ false
-    go true b e = never (ap is_refused e)
+    go true b e = never (ap isRefused e)
     go false b e = b
 
 pub log-read : (x : ReadAnswer Log) (g : Log) → logReadOf x ≡ LogRead.Read g → (eqb x.number 0 ≡ true) × (x.contents ≡ g)
@@ -167,7 +167,7 @@ log-read x g e = go (eqb x.number 0) refl e
     go : (t : Bool) → eqb x.number 0 ≡ t → cond t (LogRead.Read x.contents) (LogRead.Refused Refusal.Log) ≡ LogRead.Read g
         → (eqb x.number 0 ≡ true) × (x.contents ≡ g)
     go true b e = (b, ap (theLog g) e)
-    go false b e = never (sym (ap is_refused e))
+    go false b e = never (sym (ap isRefused e))
 
 -- ---- a row's image, tested: its first numbers are read as a log
 
@@ -175,27 +175,27 @@ module _ (r : CardRow) (g : Log) where
   abbrev tests : EngineRead → Bool → StateRead
   tests o b = fitState (checked (imageFormat today) (cond b (withEngine (imageWith r) o (numbersOf r.image)) none)) g
 
-  abbrev front_read : EngineRead → LogRead
-  front_read o = logReadOf (checked (logFormat today) (withEngine logOf o (numbersOf r.image)))
+  abbrev front-read : EngineRead → LogRead
+  front-read o = logReadOf (checked (logFormat today) (withEngine logOf o (numbersOf r.image)))
 
   -- an image whose first numbers are no log
-  image-unread : (o : EngineRead) (k : Refusal) (b : Bool) → front_read o ≡ LogRead.Refused k → tests o b ≡ StateRead.Unfit
+  image-unread : (o : EngineRead) (k : Refusal) (b : Bool) → front-read o ≡ LogRead.Refused k → tests o b ≡ StateRead.Unfit
   unfolding fitState imageOk
   image-unread o k false e = refl
   image-unread Unknown k true e = refl
   image-unread (Is x) k true e = by (logOk today (logOf x (numbersOf r.image))) refl e
     where
       by : (t : Bool) → logOk today (logOf x (numbersOf r.image)) ≡ t
-          → logReadOf (cond t (reading 0 (logOf x (numbersOf r.image))) (reading (number_of Refusal.Log) noLog)) ≡ LogRead.Refused k
+          → logReadOf (cond t (reading 0 (logOf x (numbersOf r.image))) (reading (numberOf Refusal.Log) noLog)) ≡ LogRead.Refused k
           → tests (Is x) true ≡ StateRead.Unfit
-      by true ok e = never (ap is_refused e)
+      by true ok e = never (ap isRefused e)
       by false ok e = rw ok
 
   -- else the rest is tested
-  image-tested : (o : EngineRead) (front : Log) → front_read o ≡ LogRead.Read front
+  image-tested : (o : EngineRead) (front : Log) → front-read o ≡ LogRead.Read front
       → tests o (marksFit r.checks && marksFit r.seconds) ≡ cond (rowFits today r front g) (StateRead.Fits front.state) StateRead.Unfit
   unfolding fitState imageOk
-  image-tested Unknown front e = never (sym (ap is_refused e))
+  image-tested Unknown front e = never (sym (ap isRefused e))
   image-tested (Is x) front e = by (logOk today (logOf x (numbersOf r.image))) refl e
     where
       marks : (b d : Bool) → marksFit r.checks ≡ b → marksFit r.seconds ≡ d → logOk today (logOf x (numbersOf r.image)) ≡ true
@@ -206,10 +206,10 @@ module _ (r : CardRow) (g : Log) where
       marks true true f h ok = rw (f, h) (fit-checked (imageWith r x (numbersOf r.image)) g ∙ rw ok)
 
       by : (t : Bool) → logOk today (logOf x (numbersOf r.image)) ≡ t
-          → logReadOf (cond t (reading 0 (logOf x (numbersOf r.image))) (reading (number_of Refusal.Log) noLog)) ≡ LogRead.Read front
+          → logReadOf (cond t (reading 0 (logOf x (numbersOf r.image))) (reading (numberOf Refusal.Log) noLog)) ≡ LogRead.Read front
           → tests (Is x) (marksFit r.checks && marksFit r.seconds)
           ≡ cond (rowFits today r front g) (StateRead.Fits front.state) StateRead.Unfit
-      by false ok e = never (sym (ap is_refused e))
+      by false ok e = never (sym (ap isRefused e))
       by true ok e = rw (← ap (theLog front) e) (marks (marksFit r.checks) (marksFit r.seconds) refl refl ok)
 
   pub row-unread : (k : Refusal) → logReadOf (fromNumbers (logFormat today) (numbersOf r.image)) ≡ LogRead.Refused k
@@ -250,7 +250,7 @@ module _ (r : CardRow) (g : Log) where
       go : (t : Bool) → fit ≡ t → cond t (StateRead.Fits (rowImage today r).contents.state) StateRead.Unfit ≡ StateRead.Fits s → FitRow s
       go false b e = never (sym (ap isUnfit e))
       go true b e =
-          let read = image-forth today r (eqb-true _ _ (both_true (eqb (rowImage today r).number 0) _ b).0) in
+          let read = image-forth today r (eqb-true _ _ (both-true (eqb (rowImage today r).number 0) _ b).0) in
           record {
             fits-log = b;
             checks-fit = read.checks-fit;
@@ -264,10 +264,10 @@ module _ (r : CardRow) (g : Log) where
 answered-unless : (cs : List Condition) (r : CardRow) (u : U.Unit) (a : Answer) → a.refusal ≡ Refusal.None
     → rowAnswered r (unless cs u a) ≡ unlessRow cs r a
 unfolding unless unlessRow
-answered-unless cs r u a plain = go (eqb (number_of (first_of cs)) 0) refl
+answered-unless cs r u a plain = go (eqb (numberOf (firstOf cs)) 0) refl
   where
-    go : (t : Bool) → eqb (number_of (first_of cs)) 0 ≡ t
-        → rowAnswered r (cond t a (refuses u (first_of cs))) ≡ cond t (rowAnswer (row_of a.unit) (told a)) (rowAnswer r (tells (first_of cs)))
+    go : (t : Bool) → eqb (numberOf (firstOf cs)) 0 ≡ t
+        → rowAnswered r (cond t a (refuses u (firstOf cs))) ≡ cond t (rowAnswer (rowOf a.unit) (told a)) (rowAnswer r (tells (firstOf cs)))
     go true e = rw plain
     go false e = rw e
 
@@ -292,7 +292,7 @@ module _ (l : Limits) (c : CardCall) (r : CardRow) where
   keyOnByLog (LogRead.Refused k) = rowAnswer r (tells k)
 
   pub unit-step : (s : UnitStep) → actOf l (Act.Step s) c r ≡ stepByLog s (ownLog l c r)
-  unfolding stepConditions stepAnswer unlessRow first_of badRowImage
+  unfolding stepConditions stepAnswer unlessRow firstOf badRowImage
   unit-step s = go (badBeside (besideOf c) c.row || badRowLog l r) (otherRow l (settingsOfRow (besideOf c) c.row) r) test refl
     where
       test : Bool
@@ -313,7 +313,7 @@ module _ (l : Limits) (c : CardCall) (r : CardRow) where
           (sym (ap (rowAnswered r) (takes-unless l s (rowUnit l r)) ∙ answered-unless cs r (rowUnit l r) (unitAnswer s (rowUnit l r)) (unit-plain s _)))
 
   pub key-on-step : actOf l Act.KeyOn c r ≡ keyOnByLog (ownLog l c r)
-  unfolding stepConditions stepAnswer unlessRow first_of recovered downUnit atLog
+  unfolding stepConditions stepAnswer unlessRow firstOf recovered downUnit atLog
   key-on-step = go (badBeside (besideOf c) c.row || badRowLog l r) (otherRow l (settingsOfRow (besideOf c) c.row) r)
     where
       go : (b₁ b₂ : Bool)
@@ -324,6 +324,6 @@ module _ (l : Limits) (c : CardCall) (r : CardRow) where
       go false false = refl
 
 -- a fresh unit's row
-pub fresh-row : (s : Settings) → row_of (fresh s) ≡ unmarkedRow (unitLog (fresh s))
+pub fresh-row : (s : Settings) → rowOf (fresh s) ≡ unmarkedRow (unitLog (fresh s))
 unfolding fresh atLog
 fresh-row s = refl

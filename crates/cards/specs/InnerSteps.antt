@@ -2,22 +2,22 @@
 -- and the step of that row. Assumes nothing.
 use Rattle.std.specs.Prelude.{ℕ, ◌-◌, Bool, true, false, not, cond, ◌&&◌, ◌||◌, List, [], ◌∷◌, eqb, leb, length, get_or, set}
 use Rattle.tally.specs.Limits.{Limits, messageSize}
-use Rattle.tally.specs.Refusal.{number_of}
+use Rattle.tally.specs.Refusal.{numberOf}
 use Rattle.tally.specs.Tally.{noMarks}
 use Rattle.tally.specs.declared.Estimate.TheVariants.{Blank}
 use Rattle.tally.specs.declared.Refusal.{Refusal}
-use Rattle.contents.specs.Estimates.{is_b}
+use Rattle.contents.specs.Estimates.{isB}
 use Rattle.contents.specs.Images.{tallyOk, checksAllowed, fits}
-use Rattle.contents.specs.Messages.{is_empty, emptyMessage}
+use Rattle.contents.specs.Messages.{isEmpty, emptyMessage}
 use Rattle.contents.specs.declared.Log.{Log}
 use Rattle.contents.specs.declared.Message.{Message}
-use Rattle.formats.specs.Codes.{code_of}
+use Rattle.formats.specs.Codes.{codeOf}
 use Rattle.formats.specs.Formats.{ReadAnswer}
 use Rattle.formats.specs.Images.{withTallies}
 use Rattle.formats.specs.InnerFormats.{stored}
 use Rattle.formats.specs.Messages.{messageFormat, readMessage, cleared}
 use Rattle.formats.specs.declared.LogRead.{LogRead}
-use Rattle.consensus.specs.Conditions.{Condition, condition, first_of}
+use Rattle.consensus.specs.Conditions.{Condition, condition, firstOf}
 use Rattle.consensus.specs.Methods.{proposeConditions, propose, deliverConditions, deliver}
 use Rattle.consensus.specs.Step.{quiet, fresh, recovered, proposed, received}
 use Rattle.consensus.specs.Units.{upUnit, downUnit}
@@ -25,7 +25,7 @@ use Rattle.consensus.specs.declared.Answer.{Answer}
 use Rattle.consensus.specs.declared.Unit as U
 use Rattle.calls.specs.Calls.{wrongLength, badMessage}
 use Rattle.cards.specs.Calls.{CardAnswer, cardCalled, Beside, beside, wrongCount, namesNoRow, badBeside, settingsOfRow, badRowLog, otherRow, badRowImage}
-use Rattle.cards.specs.Rows.{marksFit, rowTally, logFieldsOf, tallyFieldsOf, rowLog, rowImage, rowUnit, row_of, no_row}
+use Rattle.cards.specs.Rows.{marksFit, rowTally, logFieldsOf, tallyFieldsOf, rowLog, rowImage, rowUnit, rowOf, noRow}
 use Rattle.cards.specs.declared.Act.{Act}
 use Rattle.cards.specs.declared.Act.TheVariants.{WrongLength, Malformed, Start, KeyOn, Step}
 use Rattle.cards.specs.declared.CardCall.{CardCall}
@@ -66,7 +66,7 @@ rowFits l r front g =
     marksFit r.checks
     && marksFit r.seconds
     && tallyOk l false front.settings.engine front.settings.n i.checks
-    && tallyOk l (is_b front.settings.engine) front.settings.engine front.settings.n i.seconds
+    && tallyOk l (isB front.settings.engine) front.settings.engine front.settings.n i.seconds
     && checksAllowed front.settings.engine front.state.second i.checks.marks
     && fits i g
 
@@ -119,12 +119,12 @@ rowAnswer r t = record { row = r; told = t }
 
 -- an accepted answer changes the row, a refusal does not
 abbrev pub rowAnswered : CardRow → Answer → RowAnswer
-rowAnswered r a = cond (eqb (number_of a.refusal) 0) (rowAnswer (row_of a.unit) (told a)) (rowAnswer r (tells a.refusal))
+rowAnswered r a = cond (eqb (numberOf a.refusal) 0) (rowAnswer (rowOf a.unit) (told a)) (rowAnswer r (tells a.refusal))
 
 -- the first condition that holds refuses; where none does, the answer
 unfoldable pub unlessRow : List Condition → CardRow → Answer → RowAnswer
 unlessRow conditions r a =
-    cond (eqb (number_of (first_of conditions)) 0) (rowAnswer (row_of a.unit) (told a)) (rowAnswer r (tells (first_of conditions)))
+    cond (eqb (numberOf (firstOf conditions)) 0) (rowAnswer (rowOf a.unit) (told a)) (rowAnswer r (tells (firstOf conditions)))
 
 abbrev pub actOf : Limits → Act → CardCall → CardRow → RowAnswer
 actOf l act c r = unlessRow (stepConditions l act c r) r (stepAnswer l act c r)
@@ -135,8 +135,8 @@ withLog l s g r =
     cond (eqb (rowImage l r).number 0 && fits (rowImage l r).contents g) (rowAnswered r (takes l s (upUnit g (rowImage l r).contents)))
     (rowAnswer r (tells Refusal.Image))
 
-unfoldable pub step_of : Limits → CardCall → CardRow → RowAnswer
-step_of l c r = actOf l c.act c r
+unfoldable pub stepOf : Limits → CardCall → CardRow → RowAnswer
+stepOf l c r = actOf l c.act c r
 
 -- ---- which row
 
@@ -165,22 +165,22 @@ frontConditions c count =
     ∷ []
 
 unfoldable pub front : CardCall → ℕ → Refusal
-front c count = first_of (frontConditions c count)
+front c count = firstOf (frontConditions c count)
 
 -- where the row stands, or past the end where there is none
-unfoldable pub place_of : CardCall → ℕ → ℕ
-place_of c count = cond (eqb (number_of (front c count)) 0) (c.row - 1) count
+unfoldable pub placeOf : CardCall → ℕ → ℕ
+placeOf c count = cond (eqb (numberOf (front c count)) 0) (c.row - 1) count
 
 -- what the caller is told, and the rows afterwards
 unfoldable pub cardTold : Limits → CardCall → List CardRow → Told
 cardTold l c rows =
-    cond (leb (length rows) (place_of c (length rows))) (tells (front c (length rows)))
-    (step_of l c (get_or rows (place_of c (length rows)) no_row)).told
+    cond (leb (length rows) (placeOf c (length rows))) (tells (front c (length rows)))
+    (stepOf l c (get_or rows (placeOf c (length rows)) noRow)).told
 
 unfoldable pub cardRows : Limits → CardCall → List CardRow → List CardRow
 cardRows l c rows =
-    cond (leb (length rows) (place_of c (length rows))) rows
-    (set rows (place_of c (length rows)) (step_of l c (get_or rows (place_of c (length rows)) no_row)).row)
+    cond (leb (length rows) (placeOf c (length rows))) rows
+    (set rows (placeOf c (length rows)) (stepOf l c (get_or rows (placeOf c (length rows)) noRow)).row)
 
 -- ---- what the calls ask of a row, from numbers and buffers, and how they store what is told
 
@@ -199,8 +199,8 @@ deliverAsks l engine n unit message size =
 
 -- a message in an output buffer
 unfoldable pub putMessage : Limits → Message → List ℕ → List ℕ
-putMessage l m out = cond (is_empty m.kind) (cleared l out) (stored (messageFormat l) m out)
+putMessage l m out = cond (isEmpty m.kind) (cleared l out) (stored (messageFormat l) m out)
 
 -- what a call tells, as number and bytes
 abbrev pub toldCard : Limits → List CardRow → List ℕ → Told → CardAnswer
-toldCard l rows out t = cardCalled (number_of t.refusal) rows (putMessage l t.message out) (code_of t.decision)
+toldCard l rows out t = cardCalled (numberOf t.refusal) rows (putMessage l t.message out) (codeOf t.decision)

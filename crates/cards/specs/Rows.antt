@@ -7,9 +7,9 @@ use Rattle.tally.specs.declared.Tally.{Tally}
 use Rattle.contents.specs.Images.{imageLog}
 use Rattle.contents.specs.declared.Image.{Image}
 use Rattle.contents.specs.declared.Log.{Log}
-use Rattle.formats.specs.Codes.{letterOf, engineOf, withEngine, code_of}
+use Rattle.formats.specs.Codes.{letterOf, engineOf, withEngine, codeOf}
 use Rattle.formats.specs.Formats.{ReadAnswer, checked, fromNumbers}
-use Rattle.formats.specs.Images.{cellCode, tally_of, withTallies, imageFormat}
+use Rattle.formats.specs.Images.{cellCode, tallyOf, withTallies, imageFormat}
 use Rattle.formats.specs.Logs.{logOf, logFormat}
 use Rattle.consensus.specs.Units.{unitLog, unitImage, upUnit}
 use Rattle.consensus.specs.declared.Unit as U
@@ -32,7 +32,7 @@ abbrev pub marksFit : TallyFields → Bool
 marksFit f = ltb f.marks (2 ^ senders)
 
 abbrev pub rowTally : TallyFields → Tally
-rowTally f = tally_of (f.marks ∷ f.estimates)
+rowTally f = tallyOf (f.marks ∷ f.estimates)
 
 abbrev pub imageWith : CardRow → Engine → List ℕ → Image
 imageWith r e vs = withTallies (logOf e vs) (rowTally r.checks) (rowTally r.seconds)
@@ -57,16 +57,16 @@ logFieldsOf g =
       unit = g.settings.unit;
       entry = g.settings.entry;
       round = g.state.round;
-      proposal = code_of g.state.proposal;
-      first = code_of g.state.first;
-      second = code_of g.state.second;
+      proposal = codeOf g.state.proposal;
+      first = codeOf g.state.first;
+      second = codeOf g.state.second;
     }
 
 abbrev pub tallyFieldsOf : Tally → TallyFields
 tallyFieldsOf t = record { marks = t.marks; estimates = map cellCode t.cells }
 
-abbrev pub row_of : U.Unit → CardRow
-row_of u =
+abbrev pub rowOf : U.Unit → CardRow
+rowOf u =
     record {
       log = logFieldsOf (unitLog u);
       image = logFieldsOf (imageLog (unitImage u));
@@ -82,5 +82,5 @@ noFields = record { engine = 0; n = 0; unit = 0; entry = 0; round = 0; proposal 
 abbrev pub noTally : TallyFields
 noTally = record { marks = 0; estimates = replicate senders 0 }
 
-abbrev pub no_row : CardRow
-no_row = record { log = noFields; image = noFields; checks = noTally; seconds = noTally }
+abbrev pub noRow : CardRow
+noRow = record { log = noFields; image = noFields; checks = noTally; seconds = noTally }

@@ -1,5 +1,7 @@
 // A card: rows of plain numbers that a host lends, one for each entry. What a call makes of them is in specs/; crates card_rows and
 // card_calls have the code.
+#![tactic(auto)]
+
 use contents::{Message, Settings};
 use tally::{Estimate, Refusal, limits};
 

@@ -1,7 +1,9 @@
 // Letters and estimates as numbers; and numbers of 8, 16 and a round's bits as a caller sees them, 32 bits each.
+#![tactic(auto)]
+
 ghost use Rattle.std.specs.Prelude.{◌≡◌, ◌^◌, ltb};
 ghost use Rattle.tally.specs.Limits.{today};
-ghost use Rattle.formats.specs.Codes.{letterOf, engineOf, kindLetter, kind_of, code_of, estimateOf};
+ghost use Rattle.formats.specs.Codes.{letterOf, engineOf, kindLetter, kindOf, codeOf, estimateOf};
 
 use contents::Kind;
 use formats::{EngineRead, KindRead};
@@ -40,7 +42,7 @@ pub fn kind_letter(k: Kind) -> u8
 }
 
 pub fn kind_of(b: u8) -> KindRead
-    ensures { result ≡ kind_of b }
+    ensures { result ≡ kindOf b }
 {
     match b {
         b'F' => KindRead::Is(Kind::First),
@@ -52,7 +54,7 @@ pub fn kind_of(b: u8) -> KindRead
 }
 
 pub fn code_of(e: Estimate) -> u32
-    ensures { result ≡ code_of e }
+    ensures { result ≡ codeOf e }
 {
     match e {
         Estimate::Blank => limits::BLANK,

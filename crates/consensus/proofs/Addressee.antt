@@ -9,7 +9,7 @@ use Rattle.contents.specs.Estimates.{sameEngine}
 use Rattle.contents.specs.declared.Message.{Message}
 use Rattle.contents.specs.declared.Settings.{Settings}
 use Rattle.contents.proofs.Same.{same-engine, engine-same}
-use Rattle.contents.proofs.Tests.{both_true}
+use Rattle.contents.proofs.Tests.{both-true}
 use Rattle.consensus.specs.Methods.{forOther}
 
 -- the message is for the unit with these settings
@@ -43,9 +43,9 @@ mine-passes s m h =
 pub passes-mine : (s : Settings) (m : Message) → forOther s m ≡ false → Mine s m
 unfolding forOther
 passes-mine s m h =
-    let a = both_true (sameEngine s.engine m.engine && eqb s.n m.n && eqb s.entry m.entry) _ (not-false _ h) in
-    let b = both_true (sameEngine s.engine m.engine && eqb s.n m.n) _ a.0 in
-    let c = both_true (sameEngine s.engine m.engine) _ b.0 in
+    let a = both-true (sameEngine s.engine m.engine && eqb s.n m.n && eqb s.entry m.entry) _ (not-false _ h) in
+    let b = both-true (sameEngine s.engine m.engine && eqb s.n m.n) _ a.0 in
+    let c = both-true (sameEngine s.engine m.engine) _ b.0 in
     record {
       engine = sym (same-engine _ _ c.0);
       n = sym (eqb-true s.n m.n c.1);

@@ -11,7 +11,7 @@ use Rattle.consensus.specs.Step.{received}
 use Rattle.consensus.specs.Units.{unitLog, unitImage}
 use Rattle.consensus.specs.declared.Answer.{Answer}
 use Rattle.consensus.specs.declared.Unit as U
-use Rattle.consensus.proofs.Branches.{by-round, by_kind, by-check, by-second, by-unless}
+use Rattle.consensus.proofs.Branches.{by-round, by-kind, by-check, by-second, by-unless}
 
 -- an answer of the unit u that refuses nothing
 pub record Plain (u : U.Unit) (a : Answer) : Type 0 where
@@ -25,7 +25,7 @@ plain-received u m =
   where
     kind : (v : U.Unit) → v.power ≡ u.power → Plain u (onKind m.kind v m)
     kind v same =
-        by_kind (Plain u) m.kind v m
+        by-kind (Plain u) m.kind v m
         (record {
           nothing = record { none = refl; power = same };
           first = λ k h. record { none = refl; power = same };

@@ -7,7 +7,7 @@ use native.Mathlib.Omega.{arith}
 use lib.Dec.{eqb, ltb}
 use borrow.Author.Tests.{ltb-true, ltb-false, not-true}
 use Rattle.tally.specs.Gathered.{common}
-use Rattle.tally.specs.Refusal.{number_of}
+use Rattle.tally.specs.Refusal.{numberOf}
 use Rattle.tally.specs.Tally.{isMarked, gathered}
 use Rattle.tally.specs.declared.Refusal.{Refusal}
 use Rattle.tally.specs.declared.Tally.{Tally}
@@ -16,9 +16,9 @@ use Rattle.contents.specs.Estimates.{isBlank}
 use Rattle.contents.specs.declared.Kind.{Kind}
 use Rattle.contents.specs.declared.Kind.TheVariants.{Empty, First, Check, Second, Skip}
 use Rattle.contents.specs.declared.Message.{Message}
-use Rattle.contents.proofs.Tests.{both_true}
+use Rattle.contents.proofs.Tests.{both-true}
 use Rattle.consensus.specs.Methods.{refuses, unless}
-use Rattle.consensus.specs.Conditions.{Condition, conditionNumber, first_of, NoneHolds}
+use Rattle.consensus.specs.Conditions.{Condition, conditionNumber, firstOf, NoneHolds}
 use Rattle.consensus.specs.Step.{quiet, withChecks, withSeconds, takeFirst, onFirst, isFull, takeSecond, countCheck, checksWith, onCheck, atRound, close}
 use Rattle.consensus.specs.Step.{countSecond, secondsWith, onSecond, onKind, skip, caughtUp, received}
 use Rattle.consensus.specs.declared.Answer.{Answer}
@@ -36,16 +36,16 @@ module _ (P : Answer → Type 0) where
         → P (countCheck u (checksWith u m))
     pub seconds : k ≡ Second → isMarked u.seconds.marks m.sender ≡ false → P (countSecond u (secondsWith u m))
 
-  pub by_kind : (k : Kind) (u : U.Unit) (m : Message) → Branches k u m → P (onKind k u m)
+  pub by-kind : (k : Kind) (u : U.Unit) (m : Message) → Branches k u m → P (onKind k u m)
   unfolding onKind onFirst onCheck onSecond
-  by_kind Empty u m b = b.nothing
-  by_kind First u m b = by-test (isBlank u.current.first) (b.first refl) (λ e. b.nothing)
-  by_kind Check u m b =
+  by-kind Empty u m b = b.nothing
+  by-kind First u m b = by-test (isBlank u.current.first) (b.first refl) (λ e. b.nothing)
+  by-kind Check u m b =
       by-test (isBlank u.current.second && not (isMarked u.checks.marks m.sender))
-      (λ e. let p = both_true _ _ e in b.checks refl p.0 (not-true _ p.1))
+      (λ e. let p = both-true _ _ e in b.checks refl p.0 (not-true _ p.1))
       (λ e. b.nothing)
-  by_kind Second u m b = by-test (isMarked u.seconds.marks m.sender) (λ e. b.nothing) (b.seconds refl)
-  by_kind Skip u m b = b.nothing
+  by-kind Second u m b = by-test (isMarked u.seconds.marks m.sender) (λ e. b.nothing) (b.seconds refl)
+  by-kind Skip u m b = b.nothing
 
   -- a count is full or short of the quorum
   pub by-check : (u : U.Unit) (t : Tally) → (isFull u t ≡ true → P (takeSecond u (common (gathered t))))
@@ -73,16 +73,16 @@ module _ (P : Answer → Type 0) where
   -- a method answers, or refuses
   pub by-unless : (cs : List Condition) (u : U.Unit) (a : Answer) → P a → ((k : Refusal) → P (refuses u k)) → P (unless cs u a)
   unfolding unless
-  by-unless cs u a answered refused = by-test (eqb (number_of (first_of cs)) 0) (λ e. answered) (λ e. refused (first_of cs))
+  by-unless cs u a answered refused = by-test (eqb (numberOf (firstOf cs)) 0) (λ e. answered) (λ e. refused (firstOf cs))
 
   -- conditions whose number is not 0, of which one refuses or none holds
   pub by-conditions : (cs : List Condition) (u : U.Unit) (a : Answer) → Each (λ r. eqb (conditionNumber r) 0 ≡ false) cs → ((k : Refusal) → P (refuses u k))
       → (NoneHolds cs → P a) → P (unless cs u a)
-  unfolding unless first_of
+  unfolding unless firstOf
   by-conditions [] u a each refused accepted = accepted tt
   by-conditions (r ∷ rs) u a each refused accepted = go r.holds refl (by-conditions rs u a each.1 refused)
     where
       go : (b : Bool) → r.holds ≡ b → ((NoneHolds rs → P a) → P (unless rs u a))
-          → P (cond (eqb (number_of (cond b r.refusal (first_of rs))) 0) a (refuses u (cond b r.refusal (first_of rs))))
+          → P (cond (eqb (numberOf (cond b r.refusal (firstOf rs))) 0) a (refuses u (cond b r.refusal (firstOf rs))))
       go true e ih = rw each.0 (refused r.refusal)
       go false e ih = ih (λ h. accepted (e, h))

@@ -14,20 +14,20 @@ use Rattle.tally.specs.declared.Engine.TheVariants.{B, R}
 use Rattle.tally.specs.declared.Estimate.{Estimate}
 use Rattle.tally.specs.declared.Estimate.TheVariants.{Blank, Split, Mileage}
 use Rattle.tally.specs.declared.Tally.{Tally}
-use Rattle.tally.proofs.Count.{Each, each_map}
+use Rattle.tally.proofs.Count.{Each, each-map}
 use Rattle.tally.proofs.Gathered.{found}
 use Rattle.tally.proofs.Never.{never}
-use Rattle.contents.specs.Estimates.{in_range, isBlank, mileageOrBlank}
+use Rattle.contents.specs.Estimates.{inRange, isBlank, mileageOrBlank}
 use Rattle.contents.proofs.Facts.{known-or-split}
 use Rattle.consensus.specs.Step.{decided, nextProposal}
 use Rattle.consensus.proofs.Parts.{Takes, Places, or-first}
 
 -- what holds of each marked place holds of each gathered
 module _ (P : Estimate → Type 0) (t : Tally) (marked : (s : ℕ) → s < senders → isMarked t.marks s ≡ true → P (estimateAt t s)) where
-  each_from : (s k : ℕ) → s + k ≤ senders → Each P (gatheredFrom t s k)
+  each-from : (s k : ℕ) → s + k ≤ senders → Each P (gatheredFrom t s k)
   unfolding gatheredFrom
-  each_from s zero h = tt
-  each_from s (suc k) h = go (isMarked t.marks s) refl (each_from (suc s) k (omega arith))
+  each-from s zero h = tt
+  each-from s (suc k) h = go (isMarked t.marks s) refl (each-from (suc s) k (omega arith))
     where
       go : (b : Bool) → isMarked t.marks s ≡ b → Each P (gatheredFrom t (suc s) k)
           → Each P (cond b (estimateAt t s ∷ gatheredFrom t (suc s) k) (gatheredFrom t (suc s) k))
@@ -36,14 +36,14 @@ module _ (P : Estimate → Type 0) (t : Tally) (marked : (s : ℕ) → s < sende
 
   each-gathered : Each P (gathered t)
   unfolding gathered
-  each-gathered = each_from 0 senders (omega arith)
+  each-gathered = each-from 0 senders (omega arith)
 
 module _ (l : Limits) (split : Bool) where
   -- marked places hold votes
   pub votes : (n : ℕ) (t : Tally) → Places l split n t → Each (Takes l split) (gathered t)
   votes n t f = each-gathered (Takes l split) t (λ s b e. rw e at (f s b).vote)
 
-  in-range : (v : ℕ) → Takes l split (Mileage v) → (in_range l v || false) ≡ true
+  in-range : (v : ℕ) → Takes l split (Mileage v) → (inRange l v || false) ≡ true
   in-range v h = or-first false (le-leb _ _ (known-or-split l split (Mileage v) h))
 
   -- the common one is a mileage, or split
@@ -62,7 +62,7 @@ module _ (l : Limits) (split : Bool) where
   found-blank : (P : Estimate → Bool) → P Split ≡ false → (es : List Estimate) → Each (Takes l split) es
       → mileageOrBlank l (firstPassing P es) ≡ true
   unfolding mileageOrBlank
-  found-blank P fails es f = found P (λ e. mileageOrBlank l e ≡ true) refl es (each_map go es f)
+  found-blank P fails es f = found P (λ e. mileageOrBlank l e ≡ true) refl es (each-map go es f)
     where
       go : (e : Estimate) → Takes l split e → P e ≡ true → mileageOrBlank l e ≡ true
       go Blank v q = refl

@@ -25,10 +25,10 @@ use Rattle.tally.proofs.Marks.{mark-other, unmarked-none}
 use Rattle.tally.proofs.Never.{never}
 use Rattle.tally.proofs.Quorums.{majority-over-half}
 use Rattle.tally.proofs.Tallies.{passing-senders, length-gathered, holders-senders, ones-units, typed-mark, estimate-same-at, estimate-other-at, typed-empty}
-use Rattle.contents.specs.Estimates.{isBlank, is_b}
+use Rattle.contents.specs.Estimates.{isBlank, isB}
 use Rattle.contents.specs.Images.{markedOk}
-use Rattle.contents.proofs.Facts.{TallyFacts, image-facts, log_facts, only_below}
-use Rattle.contents.proofs.Tests.{both_true}
+use Rattle.contents.proofs.Facts.{TallyFacts, image-facts, log-facts, only-below}
+use Rattle.contents.proofs.Tests.{both-true}
 use Rattle.consensus.specs.Step.{nextProposal}
 use Rattle.consensus.specs.Units.{WellFormed, unitLog, unitImage}
 use Rattle.consensus.specs.declared.Unit as U
@@ -147,7 +147,7 @@ module _ (n : ℕ) (t : Tally) (p : Proper n t) where
 
       weaker : (s : ℕ) → s < n → (isMarked t.marks s && not (hasValue v (estimateAt t s))) ≡ true → others t v s ≡ true
       weaker s b h =
-          let m = both_true (isMarked t.marks s) (not (hasValue v (estimateAt t s))) h in
+          let m = both-true (isMarked t.marks s) (not (hasValue v (estimateAt t s))) h in
           let here = voted-placed s (omega (arith, p.low)) m.0 in
           rw here.1 (rw here.0 m.1)
 
@@ -194,7 +194,7 @@ lowest-not-split es =
 -- the tallies of a well-formed unit are proper
 proper-tally : (l : Limits) (split : Bool) (g : Engine) (n : ℕ) (t : Tally) → n ≤ maxUnits → Typed t → TallyFacts l split g n t → Proper n t
 proper-tally l split g n t low typed f =
-    record { typed = typed; low = low; only = only_below l split g n t f; vote = λ s b h. go (estimateAt t s) (rw h at (f.places s b).vote) }
+    record { typed = typed; low = low; only = only-below l split g n t f; vote = λ s b h. go (estimateAt t s) (rw h at (f.places s b).vote) }
   where
     go : (e : Estimate) → markedOk l split true e ≡ true → isBlank e ≡ false
     go Blank h = by split h
@@ -208,7 +208,7 @@ proper-tally l split g n t low typed f =
 pub proper-unit : (l : Limits) (u : U.Unit) → WellFormed l u → Proper u.settings.n u.checks × Proper u.settings.n u.seconds
 proper-unit l u w =
     let i = image-facts l (unitImage u) w.image in
-    let n = (log_facts l (unitLog u) w.log).numbers.n-high in
+    let n = (log-facts l (unitLog u) w.log).numbers.n-high in
     let g = u.settings.engine in
     let k = u.settings.n in
-    (proper-tally l false g k u.checks n w.checks i.checks, proper-tally l (is_b g) g k u.seconds n w.seconds i.seconds)
+    (proper-tally l false g k u.checks n w.checks i.checks, proper-tally l (isB g) g k u.seconds n w.seconds i.seconds)

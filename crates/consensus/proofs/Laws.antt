@@ -22,7 +22,7 @@ use Rattle.contents.specs.declared.Message.{Message}
 use Rattle.contents.specs.declared.Settings.{Settings}
 use Rattle.contents.specs.declared.State.{State}
 use Rattle.consensus.specs.Methods.{refuses, unless, propose, proposeConditions, deliver, deliverConditions, keyOff, keyOn}
-use Rattle.consensus.specs.Conditions.{Condition, first_of, NoneHolds}
+use Rattle.consensus.specs.Conditions.{Condition, firstOf, NoneHolds}
 use Rattle.consensus.specs.Step.{says, logWrite, atRound, sendFirst, proposed, takeFirst, onFirst, isFull, takeSecond, countCheck, checksWith, onCheck}
 use Rattle.consensus.specs.Step.{decided, nextProposal, close, countSecond, secondsWith, onSecond, onKind, skip, caughtUp, received, fresh, recovered}
 use Rattle.consensus.specs.Units.{downUnit, atLog}
@@ -74,10 +74,10 @@ module _ (p : Power) (s : Settings) (logged now : State) (checks seconds : Tally
   unfolding onKind onFirst takeFirst logWrite says
   first-b g h = rw (h, g)
 
-  pub first_r : s.engine ≡ R → now.first ≡ Blank
+  pub first-r : s.engine ≡ R → now.first ≡ Blank
       → onKind First u m ≡ answer (unit p s taken taken checks seconds) (message s Second everyone now.round m.proposal now.proposal) Blank
   unfolding onKind onFirst takeFirst logWrite says
-  first_r g h = rw (h, g)
+  first-r g h = rw (h, g)
 
   pub first-there : isBlank now.first ≡ false → onKind First u m ≡ answer u nothing Blank
   unfolding onKind onFirst
@@ -118,9 +118,9 @@ module _ (p : Power) (s : Settings) (logged now : State) (checks seconds : Tally
     abbrev votes : Tally
     votes = mark seconds m.sender m.estimate
 
-    pub second_short : ones votes.marks < quorumOf s.engine s.n → onKind Second u m ≡ answer (unit p s logged now checks votes) nothing Blank
+    pub second-short : ones votes.marks < quorumOf s.engine s.n → onKind Second u m ≡ answer (unit p s logged now checks votes) nothing Blank
     unfolding onKind onSecond countSecond secondsWith isFull
-    second_short h = rw (unmarked, lt-leb (quorumOf s.engine s.n) (ones votes.marks) h)
+    second-short h = rw (unmarked, lt-leb (quorumOf s.engine s.n) (ones votes.marks) h)
 
     -- the next proposal and the decision are as the laws below say; no log write
     pub second-closes : quorumOf s.engine s.n ≤ ones votes.marks
@@ -188,15 +188,15 @@ decided-split = refl
 
 -- ---- the methods
 
-none_first : (cs : List Condition) → NoneHolds cs → first_of cs ≡ Refusal.None
-unfolding first_of
-none_first [] h = refl
-none_first (r ∷ rs) h = rw h.0 (none_first rs h.1)
+none-first : (cs : List Condition) → NoneHolds cs → firstOf cs ≡ Refusal.None
+unfolding firstOf
+none-first [] h = refl
+none-first (r ∷ rs) h = rw h.0 (none-first rs h.1)
 
 module _ (cs : List Condition) (u : U.Unit) (a : Answer) where
   unless-accepted : NoneHolds cs → unless cs u a ≡ a
   unfolding unless
-  unless-accepted h = rw (none_first cs h)
+  unless-accepted h = rw (none-first cs h)
 
 pub propose-accepted : (l : Limits) (u : U.Unit) (v : ℕ) → NoneHolds (proposeConditions l u v) → propose l u v ≡ proposed u v
 unfolding propose
@@ -209,19 +209,19 @@ deliver-accepted l u m h = unless-accepted (deliverConditions l u m) u (received
 module _ (s : Settings) (logged now : State) (checks seconds : Tally) where
   -- key-off and key-on leave the log's contents and no marks
   pub key-off-up : keyOff (unit Up s logged now checks seconds) ≡ answer (unit Down s logged logged noMarks noMarks) nothing Blank
-  unfolding keyOff unless first_of downUnit atLog
+  unfolding keyOff unless firstOf downUnit atLog
   key-off-up = refl
 
   pub key-on-down : keyOn (unit Down s logged now checks seconds) ≡ answer (unit Up s logged logged noMarks noMarks) nothing Blank
-  unfolding keyOn unless first_of recovered atLog
+  unfolding keyOn unless firstOf recovered atLog
   key-on-down = refl
 
   pub key-off-down : keyOff (unit Down s logged now checks seconds) ≡ refuses (unit Down s logged now checks seconds) Refusal.Power
-  unfolding keyOff unless first_of
+  unfolding keyOff unless firstOf
   key-off-down = refl
 
   pub key-on-up : keyOn (unit Up s logged now checks seconds) ≡ refuses (unit Up s logged now checks seconds) Refusal.Power
-  unfolding keyOn unless first_of
+  unfolding keyOn unless firstOf
   key-on-up = refl
 
 pub fresh-blank : (s : Settings) → fresh s ≡ unit Up s (state 0 Blank Blank Blank) (state 0 Blank Blank Blank) noMarks noMarks

@@ -5,9 +5,9 @@ use mathlib.Core.Bool.{Bool, true, false, cond}
 use mathlib.Core.List.{List, [], ◌∷◌}
 use mathlib.Core.Logic.{inl, inr}
 use native.Mathlib.Omega.{arith}
-use Rattle.tally.specs.Refusal.{number_of}
+use Rattle.tally.specs.Refusal.{numberOf}
 use Rattle.tally.proofs.Never.{never}
-use Rattle.consensus.specs.Conditions.{Condition, conditionNumber, first_of, NumberHolds, LowestNumber}
+use Rattle.consensus.specs.Conditions.{Condition, conditionNumber, firstOf, NumberHolds, LowestNumber}
 
 -- the numbers rise, from above k on
 abbrev pub Rising : ℕ → List Condition → Type 0
@@ -22,18 +22,18 @@ holds-above k j (r ∷ rs) up (inr h) = omega (arith, up.0, holds-above (conditi
 
 module _ (P : List Condition → ℕ → Type 0) (empty : P [] 0)
     (here : (r : Condition) (rs : List Condition) → r.holds ≡ true → P (r ∷ rs) (conditionNumber r))
-    (later : (r : Condition) (rs : List Condition) → r.holds ≡ false → P rs (number_of (first_of rs)) → P (r ∷ rs) (number_of (first_of rs))) where
+    (later : (r : Condition) (rs : List Condition) → r.holds ≡ false → P rs (numberOf (firstOf rs)) → P (r ∷ rs) (numberOf (firstOf rs))) where
   -- induction over the conditions up to the first that holds
-  up-to-first : (cs : List Condition) → P cs (number_of (first_of cs))
-  unfolding first_of
+  up-to-first : (cs : List Condition) → P cs (numberOf (firstOf cs))
+  unfolding firstOf
   up-to-first [] = empty
   up-to-first (r ∷ rs) = go r.holds refl (up-to-first rs)
     where
-      go : (b : Bool) → r.holds ≡ b → P rs (number_of (first_of rs)) → P (r ∷ rs) (number_of (cond b r.refusal (first_of rs)))
+      go : (b : Bool) → r.holds ≡ b → P rs (numberOf (firstOf rs)) → P (r ∷ rs) (numberOf (cond b r.refusal (firstOf rs)))
       go true h ih = here r rs h
       go false h ih = later r rs h ih
 
-pub first-lowest : (cs : List Condition) → Rising 0 cs → LowestNumber cs (number_of (first_of cs))
+pub first-lowest : (cs : List Condition) → Rising 0 cs → LowestNumber cs (numberOf (firstOf cs))
 first-lowest cs up =
     up-to-first (λ cs k. (j : ℕ) → Rising j cs → LowestNumber cs k)
     (λ j up. record { accepted = λ e. tt; none = λ n. refl; refused = λ n. absurd (n refl); lowest = λ i h. absurd h })
@@ -58,7 +58,7 @@ first-lowest cs up =
     first r rs i up (inl x) = omega (arith, x.0)
     first r rs i up (inr x) = omega (arith, holds-above (conditionNumber r) i rs up x)
 
-    rest : (r : Condition) (rs : List Condition) → r.holds ≡ false → ((i : ℕ) → NumberHolds i rs → number_of (first_of rs) ≤ i) → (i : ℕ)
-        → NumberHolds i (r ∷ rs) → number_of (first_of rs) ≤ i
+    rest : (r : Condition) (rs : List Condition) → r.holds ≡ false → ((i : ℕ) → NumberHolds i rs → numberOf (firstOf rs) ≤ i) → (i : ℕ)
+        → NumberHolds i (r ∷ rs) → numberOf (firstOf rs) ≤ i
     rest r rs h low i (inl x) = never (sym h ∙ x.1)
     rest r rs h low i (inr x) = low i x

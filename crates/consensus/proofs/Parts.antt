@@ -16,7 +16,7 @@ use Rattle.tally.specs.declared.Tally.{Tally}
 use Rattle.tally.proofs.Marks.{mark-same, mark-other, unmarked-none}
 use Rattle.tally.proofs.Quorums.{quorum-fits}
 use Rattle.tally.proofs.Tallies.{typed-empty, estimate-same-at, estimate-other-at}
-use Rattle.contents.specs.Estimates.{is_b, isBlank, isSplit, isMileage, mileageOrBlank, secondEstimateOk}
+use Rattle.contents.specs.Estimates.{isB, isBlank, isSplit, isMileage, mileageOrBlank, secondEstimateOk}
 use Rattle.contents.specs.Images.{every, cellOk, cellsOk, tallyOk, checksAllowed, imageOk, sameSettings, stateFits, fits}
 use Rattle.contents.specs.Logs.{settingsOk, stateOk, logOk}
 use Rattle.contents.specs.declared.Log.{Log}
@@ -24,7 +24,7 @@ use Rattle.contents.specs.declared.Settings.{Settings}
 use Rattle.contents.specs.declared.State.{State}
 use Rattle.contents.proofs.Facts.{numbers-facts, StateFacts, state-facts, CellFacts, TallyFacts, image-facts}
 use Rattle.contents.proofs.Same.{estimate-same, settings-same, Fits, state-fits}
-use Rattle.contents.proofs.Tests.{both_true}
+use Rattle.contents.proofs.Tests.{both-true}
 use Rattle.consensus.specs.Step.{atRound, clean}
 use Rattle.consensus.specs.Units.{WellFormed, unitImage, atLog}
 use Rattle.consensus.specs.declared.Power.{Power}
@@ -32,8 +32,8 @@ use Rattle.consensus.specs.declared.Unit as U
 
 -- ---- tests that are passed, from facts
 
-pub and_both : {a b : Bool} → a ≡ true → b ≡ true → (a && b) ≡ true
-and_both p q = rw (p, q)
+pub and-both : {a b : Bool} → a ≡ true → b ≡ true → (a && b) ≡ true
+and-both p q = rw (p, q)
 
 pub or-first : {a : Bool} (b : Bool) → a ≡ true → (a || b) ≡ true
 or-first b p = rw p
@@ -41,18 +41,18 @@ or-first b p = rw p
 every-intro : (k : ℕ) (P : ℕ → Bool) → ((s : ℕ) → s < k → P s ≡ true) → every k P ≡ true
 unfolding every
 every-intro zero P f = refl
-every-intro (suc k) P f = and_both (every-intro k P (λ s b. f s (omega arith))) (f k (omega arith))
+every-intro (suc k) P f = and-both (every-intro k P (λ s b. f s (omega arith))) (f k (omega arith))
 
 state-ok : (l : Limits) (g : Engine) (s : State) → StateFacts l g s → stateOk l g s ≡ true
 unfolding stateOk
-state-ok l g s f = and_both (and_both (and_both (le-leb _ _ f.round) f.proposal) f.first) f.second
+state-ok l g s f = and-both (and-both (and-both (le-leb _ _ f.round) f.proposal) f.first) f.second
 
 tally-ok : (l : Limits) (split : Bool) (g : Engine) (n : ℕ) (t : Tally) → TallyFacts l split g n t → tallyOk l split g n t ≡ true
 unfolding tallyOk cellsOk cellOk
 tally-ok l split g n t f =
-    and_both
+    and-both
     (every-intro senders (λ s. cellOk l split n s (isMarked t.marks s) (estimateAt t s))
-    (λ s b. let p = f.places s b in and_both (and_both p.below p.unmarked) p.vote))
+    (λ s b. let p = f.places s b in and-both (and-both p.below p.unmarked) p.vote))
     (lt-ltb _ _ f.few)
 
 -- a log's state r and an image's state c that fits it
@@ -63,7 +63,7 @@ pub record States (l : Limits) (g : Engine) (r c : State) : Type 0 where
 
 fits-self : (s : State) → stateFits s s ≡ true
 unfolding stateFits
-fits-self s = or-first _ (and_both (and_both (eq-eqb s.round s.round refl) (estimate-same s.first)) (estimate-same s.second))
+fits-self s = or-first _ (and-both (and-both (eq-eqb s.round s.round refl) (estimate-same s.first)) (estimate-same s.second))
 
 pub states-same : (l : Limits) (g : Engine) (s : State) → StateFacts l g s → States l g s s
 states-same l g s f = record { logged = f; current = f; fit = fits-self s }
@@ -109,7 +109,7 @@ tallied-none l split s ok =
 
 pub no-checks : (g : Engine) (e : Estimate) → checksAllowed g e noMarks.marks ≡ true
 unfolding checksAllowed noMarks
-no-checks g e = or-true (is_b g && isBlank e)
+no-checks g e = or-true (isB g && isBlank e)
 
 -- ---- the parts
 
@@ -117,14 +117,14 @@ pub record Parts (l : Limits) (u : U.Unit) : Type 0 where
   pub settings : settingsOk u.settings ≡ true
   pub states : States l u.settings.engine u.logged u.current
   pub checks : WholeTally l false u.settings u.checks
-  pub seconds : WholeTally l (is_b u.settings.engine) u.settings u.seconds
+  pub seconds : WholeTally l (isB u.settings.engine) u.settings u.seconds
   pub unchecked : checksAllowed u.settings.engine u.current.second u.checks.marks ≡ true
 
 module _ (l : Limits) (u : U.Unit) where
   log-parts : (s : State) → logOk l (record { settings = u.settings; state = s }) ≡ true
       → (settingsOk u.settings ≡ true) × StateFacts l u.settings.engine s
   unfolding logOk
-  log-parts s h = let a = both_true _ _ h in (a.0, state-facts l u.settings.engine s a.1)
+  log-parts s h = let a = both-true _ _ h in (a.0, state-facts l u.settings.engine s a.1)
 
   pub parts : WellFormed l u → Parts l u
   unfolding fits
@@ -137,7 +137,7 @@ module _ (l : Limits) (u : U.Unit) where
             record {
               logged = a.1;
               current = (log-parts u.current i.log).1;
-              fit = (both_true (sameSettings u.settings u.settings) _ w.fit).1;
+              fit = (both-true (sameSettings u.settings u.settings) _ w.fit).1;
             };
         checks = record { facts = i.checks; typed = w.checks };
         seconds = record { facts = i.seconds; typed = w.seconds };
@@ -148,14 +148,14 @@ module _ (l : Limits) (u : U.Unit) where
   unfolding logOk imageOk fits
   well p =
       record {
-        log = and_both p.settings (state-ok l _ u.logged p.states.logged);
+        log = and-both p.settings (state-ok l _ u.logged p.states.logged);
         image =
-            and_both
-            (and_both
-            (and_both (and_both p.settings (state-ok l _ u.current p.states.current)) (tally-ok l _ _ _ u.checks p.checks.facts))
+            and-both
+            (and-both
+            (and-both (and-both p.settings (state-ok l _ u.current p.states.current)) (tally-ok l _ _ _ u.checks p.checks.facts))
             (tally-ok l _ _ _ u.seconds p.seconds.facts))
             p.unchecked;
-        fit = and_both (settings-same u.settings) p.states.fit;
+        fit = and-both (settings-same u.settings) p.states.fit;
         checks = p.checks.typed;
         seconds = p.seconds.typed;
       }
@@ -193,7 +193,7 @@ parts-at-round l u w r p above last ok =
 pub parts-at-log : (l : Limits) (p : Power) (r : Log) → logOk l r ≡ true → Parts l (atLog p r.settings r.state)
 unfolding logOk atLog
 parts-at-log l p r h =
-    let a = both_true (settingsOk r.settings) _ h in
+    let a = both-true (settingsOk r.settings) _ h in
     let f = state-facts l r.settings.engine r.state a.1 in
     parts-unmarked l p r.settings a.0 r.state r.state (states-same l _ r.state f)
 

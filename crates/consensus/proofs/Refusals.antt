@@ -9,7 +9,7 @@ use lib.Dec.{eqb}
 use borrow.Author.Tests.{eqb-true, eq-eqb, leb-true, le-leb, lt-leb, not-true}
 use Rattle.tally.specs.Limits.{Limits}
 use Rattle.tally.specs.Quorum.{quorumOf}
-use Rattle.tally.specs.Refusal.{number_of}
+use Rattle.tally.specs.Refusal.{numberOf}
 use Rattle.tally.specs.Tally.{isMarked, mark}
 use Rattle.tally.specs.declared.Estimate.TheVariants.{Blank}
 use Rattle.tally.specs.declared.Refusal.{Refusal}
@@ -18,10 +18,10 @@ use Rattle.contents.specs.Messages.{messageOk}
 use Rattle.contents.specs.declared.Kind.{Kind}
 use Rattle.contents.specs.declared.Kind.TheVariants.{Empty, First, Check, Second, Skip}
 use Rattle.contents.specs.declared.Message.{Message}
-use Rattle.contents.proofs.Facts.{image-facts, log_facts}
-use Rattle.contents.proofs.Tests.{both_true}
+use Rattle.contents.proofs.Facts.{image-facts, log-facts}
+use Rattle.contents.proofs.Tests.{both-true}
 use Rattle.consensus.specs.Methods.{outOfRange, isSecond, closesLast, unless, proposeConditions, propose, deliverConditions, deliver}
-use Rattle.consensus.specs.Conditions.{Condition, first_of}
+use Rattle.consensus.specs.Conditions.{Condition, firstOf}
 use Rattle.consensus.specs.Step.{isFull, secondsWith, onKind, proposed, received}
 use Rattle.consensus.specs.Units.{WellFormed}
 use Rattle.consensus.specs.declared.Answer.{Answer}
@@ -33,7 +33,7 @@ use Rattle.consensus.proofs.Soundness.{sound-deliver}
 
 -- the number k: the unit as it was, nothing sent, nothing decided
 pub record Refuses (k : ℕ) (u : U.Unit) (a : Answer) : Type 0 where
-  pub number : number_of a.refusal ≡ k
+  pub number : numberOf a.refusal ≡ k
   pub unit : a.unit ≡ u
   pub message : a.message ≡ nothing
   pub decision : a.decision ≡ Blank
@@ -82,10 +82,10 @@ module _ (l : Limits) (u : U.Unit) (m : Message) where
       let second = isSecond m.kind in
       let sent = eqb m.round l.lastRound in
       let here = eqb u.current.round l.lastRound in
-      let a = both_true (second && sent && here && not (isMarked u.seconds.marks m.sender)) _ h in
-      let b = both_true (second && sent && here) _ a.0 in
-      let c = both_true (second && sent) here b.0 in
-      let d = both_true second sent c.0 in
+      let a = both-true (second && sent && here && not (isMarked u.seconds.marks m.sender)) _ h in
+      let b = both-true (second && sent && here) _ a.0 in
+      let c = both-true (second && sent) here b.0 in
+      let d = both-true second sent c.0 in
       record {
         kind = is-second m.kind d.0;
         sent = eqb-true _ _ d.1;
@@ -96,8 +96,8 @@ module _ (l : Limits) (u : U.Unit) (m : Message) where
 
 -- ---- the methods
 
-refused : (cs : List Condition) (u : U.Unit) (a : Answer) (k : Refusal) → first_of cs ≡ k → eqb (number_of k) 0 ≡ false
-    → Refuses (number_of k) u (unless cs u a)
+refused : (cs : List Condition) (u : U.Unit) (a : Answer) (k : Refusal) → firstOf cs ≡ k → eqb (numberOf k) 0 ≡ false
+    → Refuses (numberOf k) u (unless cs u a)
 unfolding unless
 refused cs u a k e some = rw (e, some) (record { number = refl; unit = refl; message = refl; decision = refl })
 
@@ -107,33 +107,33 @@ module _ (l : Limits) (u : U.Unit) (v : ℕ) where
   propose-accepts up h = propose-accepted l u v (rw up refl, (rw (le-leb v l.maxMileage h) refl, tt))
 
   pub propose-above : u.power ≡ Up → l.maxMileage < v → Refuses 6 u (propose l u v)
-  unfolding propose proposeConditions outOfRange first_of
+  unfolding propose proposeConditions outOfRange firstOf
   propose-above up h = refused (proposeConditions l u v) u _ Refusal.Mileage (rw (up, lt-leb v l.maxMileage h)) refl
 
   pub propose-down : u.power ≡ Down → Refuses 9 u (propose l u v)
-  unfolding propose proposeConditions first_of
+  unfolding propose proposeConditions firstOf
   propose-down down = refused (proposeConditions l u v) u _ Refusal.Power (rw down) refl
 
 -- in the order 4, 9, 5, 7
 module _ (l : Limits) (u : U.Unit) (m : Message) where
   pub deliver-malformed : messageOk l m ≡ false → Refuses 4 u (deliver l u m)
-  unfolding deliver deliverConditions first_of
+  unfolding deliver deliverConditions firstOf
   deliver-malformed bad = refused (deliverConditions l u m) u _ Refusal.Message (rw bad) refl
 
   module _ (ok : messageOk l m ≡ true) where
     pub deliver-down : u.power ≡ Down → Refuses 9 u (deliver l u m)
-    unfolding deliver deliverConditions first_of
+    unfolding deliver deliverConditions firstOf
     deliver-down down = refused (deliverConditions l u m) u _ Refusal.Power (rw (ok, down)) refl
 
     module _ (up : u.power ≡ Up) where
       pub deliver-other : (Mine u.settings m → ⊥) → Refuses 5 u (deliver l u m)
-      unfolding deliver deliverConditions first_of
+      unfolding deliver deliverConditions firstOf
       deliver-other other =
           refused (deliverConditions l u m) u _ Refusal.Addressee (rw (ok, up, refuted _ (λ h. other (passes-mine u.settings m h)))) refl
 
       module _ (mine : Mine u.settings m) where
         pub deliver-closing : Closing l u m → Refuses 7 u (deliver l u m)
-        unfolding deliver deliverConditions first_of
+        unfolding deliver deliverConditions firstOf
         deliver-closing c =
             refused (deliverConditions l u m) u _ Refusal.LastRound (rw (ok, mine-passes u.settings m mine, closing-holds l u m c, up)) refl
 
@@ -157,5 +157,5 @@ module _ (l : Limits) (u : U.Unit) (m : Message) where
       refuted _
       (λ e.
       let same = deliver-accepts l u m ok up mine (λ c. never (sym e ∙ closing-holds l u m c)) in
-      let low = (log_facts l _ (image-facts l _ (sound-deliver l u m w).unit.image).log).state.round in
+      let low = (log-facts l _ (image-facts l _ (sound-deliver l u m w).unit.image).log).state.round in
       omega (arith, rw same at low))

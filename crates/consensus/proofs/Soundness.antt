@@ -24,7 +24,7 @@ use Rattle.tally.proofs.Marks.{mark-adds, unmarked-none}
 use Rattle.tally.proofs.Never.{never}
 use Rattle.tally.proofs.Quorums.{quorum-fits}
 use Rattle.tally.proofs.Tallies.{typed-mark}
-use Rattle.contents.specs.Estimates.{is_b, isBlank, isMileage, in_range, mileageOrBlank, mileageOrSplit, secondEstimateOk, sameMileage}
+use Rattle.contents.specs.Estimates.{isB, isBlank, isMileage, inRange, mileageOrBlank, mileageOrSplit, secondEstimateOk, sameMileage}
 use Rattle.contents.specs.Images.{checksAllowed, stateFits}
 use Rattle.contents.specs.Logs.{settingsOk, logOk, stateOk}
 use Rattle.contents.specs.Messages.{firstOk, checkOk, secondOk, skipOk, kindOk, messageOk, emptyMessage}
@@ -35,7 +35,7 @@ use Rattle.contents.specs.declared.Settings.{Settings}
 use Rattle.contents.proofs.KindRules.{first-mileage, check-mileage, second-estimate, mileage-blank, kind-proposal}
 use Rattle.contents.proofs.Facts.{StateFacts, numbers-facts, message-facts}
 use Rattle.contents.proofs.Same.{estimate-same}
-use Rattle.contents.proofs.Tests.{or_left}
+use Rattle.contents.proofs.Tests.{or-left}
 use Rattle.consensus.specs.Methods.{forOther, outOfRange, isSecond, closesLast, refuses, unless, propose, proposeConditions, deliver, deliverConditions}
 use Rattle.consensus.specs.Methods.{keyOff, keyOn}
 use Rattle.consensus.specs.Conditions.{condition, NoneHolds}
@@ -48,8 +48,8 @@ use Rattle.consensus.specs.declared.Power.{Power}
 use Rattle.consensus.specs.declared.Power.TheVariants.{Down, Up}
 use Rattle.consensus.specs.declared.Unit as U
 use Rattle.consensus.proofs.Addressee.{passes-mine}
-use Rattle.consensus.proofs.Branches.{by_kind, by-check, by-second, by-round, by-conditions}
-use Rattle.consensus.proofs.Parts.{Parts, parts, well, and_both, or-first, states-same, Takes, Places, places-mark, WholeTally, tallied-none, no-checks}
+use Rattle.consensus.proofs.Branches.{by-kind, by-check, by-second, by-round, by-conditions}
+use Rattle.consensus.proofs.Parts.{Parts, parts, well, and-both, or-first, states-same, Takes, Places, places-mark, WholeTally, tallied-none, no-checks}
 use Rattle.consensus.proofs.Parts.{parts-at-round, parts-at-log, well-at-log}
 use Rattle.consensus.proofs.Found.{votes, common-vote, next-proposal, decided-blank}
 
@@ -71,7 +71,7 @@ module _ (l : Limits) (u v : U.Unit) (same : v.settings ≡ u.settings) (p : Par
       from : From l v.settings (says v k to e o)
       from =
           record {
-            well-formed = and_both (and_both p.settings (le-leb _ _ p.states.current.round)) h;
+            well-formed = and-both (and-both p.settings (le-leb _ _ p.states.current.round)) h;
             engine = refl;
             n = refl;
             sender = refl;
@@ -83,17 +83,17 @@ module _ (l : Limits) (u v : U.Unit) (same : v.settings ≡ u.settings) (p : Par
 module _ (l : Limits) where
   first-ok : (v : U.Unit) (k : Kind) (e : Estimate) → isMileage l e ≡ true → firstOk l (says v k everyone e e) ≡ true
   unfolding says firstOk sameMileage
-  first-ok v k e h = and_both refl (and_both h (estimate-same e))
+  first-ok v k e h = and-both refl (and-both h (estimate-same e))
 
   second-ok : (v : U.Unit) (e p : Estimate) → mileageOrSplit l v.settings.engine e ≡ true → mileageOrBlank l p ≡ true
       → kindOk l Second (says v Second everyone e p) ≡ true
   unfolding says kindOk secondOk
-  second-ok v e p h q = and_both (and_both refl h) q
+  second-ok v e p h q = and-both (and-both refl h) q
 
   vote-ok : (v : U.Unit) (g : Engine) (e own : Estimate) → v.settings.engine ≡ g → isMileage l e ≡ true → mileageOrBlank l own ≡ true
       → kindOk l (voteKind g) (says v (voteKind g) everyone e (voteProposal g e own)) ≡ true
   unfolding says kindOk checkOk mileageOrSplit
-  vote-ok v B e own q h o = and_both (ap is_b q) (first-ok v Check e h)
+  vote-ok v B e own q h o = and-both (ap isB q) (first-ok v Check e h)
   vote-ok v R e own q h o = second-ok v e own (or-first _ h) o
 
 -- ---- what delivering to u is given
@@ -152,7 +152,7 @@ module _ (l : Limits) (u v : U.Unit) (m : Message) (same : v.settings ≡ u.sett
 
   -- CHECK is in B only
   module _ (k : m.kind ≡ Check) (blank : isBlank v.current.second ≡ true) where
-    check-kind : (is_b v.settings.engine ≡ true) × Takes l false m.estimate
+    check-kind : (isB v.settings.engine ≡ true) × Takes l false m.estimate
     check-kind = let a = check-mileage l m (i.kind Check k) in (rw (i.engine ∙ a.0), or-first false a.1.0)
 
     check-short-sound : isFull v (checksWith v m) ≡ false → Sound l u (quiet (withChecks v (checksWith v m)))
@@ -164,7 +164,7 @@ module _ (l : Limits) (u v : U.Unit) (m : Message) (same : v.settings ≡ u.sett
           states = p.states;
           checks = short false v.checks p.checks check-kind.1 h;
           seconds = p.seconds;
-          unchecked = or-first _ (and_both check-kind.0 blank);
+          unchecked = or-first _ (and-both check-kind.0 blank);
         })
 
     check-full-sound : Sound l u (takeSecond v (common (gathered (checksWith v m))))
@@ -191,7 +191,7 @@ module _ (l : Limits) (u v : U.Unit) (m : Message) (same : v.settings ≡ u.sett
             record { round = c.round; proposal = c.proposal; first = c.first; second = simp (check-kind.0, vote, or-true) }
 
   module _ (k : m.kind ≡ Second) where
-    second-vote : Takes l (is_b v.settings.engine) m.estimate
+    second-vote : Takes l (isB v.settings.engine) m.estimate
     unfolding mileageOrSplit
     second-vote = rw i.engine (second-estimate l m (i.kind Second k))
 
@@ -216,7 +216,7 @@ module _ (l : Limits) (u v : U.Unit) (m : Message) (same : v.settings ≡ u.sett
         Refusal.None _ (decided-blank l (common (gathered t)) (common-vote l split (gathered t) all))
       where
         split : Bool
-        split = is_b v.settings.engine
+        split = isB v.settings.engine
 
         t : Tally
         t = secondsWith v m
@@ -227,7 +227,7 @@ module _ (l : Limits) (u v : U.Unit) (m : Message) (same : v.settings ≡ u.sett
   kind-sound : (m.kind ≡ Second → isMarked v.seconds.marks m.sender ≡ false → isFull v (secondsWith v m) ≡ true
       → v.current.round < l.lastRound) → Sound l u (onKind m.kind v m)
   kind-sound last =
-      by_kind (Sound l u) m.kind v m
+      by-kind (Sound l u) m.kind v m
       (record {
         nothing = sound-quiet l u v same p;
         first = λ k _. first-sound k;
@@ -256,12 +256,12 @@ module _ (l : Limits) (u : U.Unit) (w : WellFormed l u) where
   sound-key-on = sound-key Up _
 
 -- a proposal kept or given is a mileage
-or-blank-mileage : (l : Limits) (a : Estimate) (v : ℕ) → mileageOrBlank l a ≡ true → in_range l v ≡ true
+or-blank-mileage : (l : Limits) (a : Estimate) (v : ℕ) → mileageOrBlank l a ≡ true → inRange l v ≡ true
     → isMileage l (orIfBlank a (Mileage v)) ≡ true
 unfolding mileageOrBlank
 or-blank-mileage l Blank v h r = r
 or-blank-mileage l Split v h r = never h
-or-blank-mileage l (Mileage x) v h r = or_left (in_range l x) false h refl
+or-blank-mileage l (Mileage x) v h r = or-left (inRange l x) false h refl
 
 pub sound-propose : (l : Limits) (u : U.Unit) (v : ℕ) → WellFormed l u → Sound l u (propose l u v)
 unfolding propose proposeConditions proposed sendFirst outOfRange kindOk stateFits
@@ -279,7 +279,7 @@ sound-propose l u v w =
     next = withCurrent u (withProposal u.current e)
 
     ok : NoneHolds (proposeConditions l u v) → isMileage l e ≡ true
-    ok n = or-blank-mileage l u.current.proposal v p.states.current.proposal (not-false (in_range l v) n.1.0)
+    ok n = or-blank-mileage l u.current.proposal v p.states.current.proposal (not-false (inRange l v) n.1.0)
 
     changed : NoneHolds (proposeConditions l u v) → Parts l next
     changed n = let c = p.states.current in
@@ -298,22 +298,22 @@ sound-propose l u v w =
 
 module _ (l : Limits) (u : U.Unit) (m : Message) (p : Parts l u) where
   -- a unit at the last round does not close it: the condition LastRound does not hold
-  at_last : closesLast l u m ≡ false → m.round ≡ u.current.round → m.kind ≡ Second → isMarked u.seconds.marks m.sender ≡ false
+  at-last : closesLast l u m ≡ false → m.round ≡ u.current.round → m.kind ≡ Second → isMarked u.seconds.marks m.sender ≡ false
       → isFull u (secondsWith u m) ≡ true → u.current.round < l.lastRound
   unfolding closesLast
-  at_last not-closing here k free full = go (eqb u.current.round l.lastRound) refl
+  at-last not-closing here k free full = go (eqb u.current.round l.lastRound) refl
     where
       go : (b : Bool) → eqb u.current.round l.lastRound ≡ b → u.current.round < l.lastRound
       go false e = omega (arith, p.states.current.round, eqb-false u.current.round l.lastRound e)
       go true e =
           let closes : closesLast l u m ≡ true =
-          and_both (and_both (and_both (and_both (ap isSecond k) (ap (λ (x : ℕ). eqb x l.lastRound) here ∙ e)) e) (ap not free)) full in
+          and-both (and-both (and-both (and-both (ap isSecond k) (ap (λ (x : ℕ). eqb x l.lastRound) here ∙ e)) e) (ap not free)) full in
           never (sym not-closing ∙ closes)
 
   -- one that caught up has one mark, and a quorum is at least two
-  not_full : (r : ℕ) (e : Estimate) → isFull (atRound u r e) (secondsWith (atRound u r e) m) ≡ true → ⊥
+  not-full : (r : ℕ) (e : Estimate) → isFull (atRound u r e) (secondsWith (atRound u r e) m) ≡ true → ⊥
   unfolding isFull secondsWith atRound mark noMarks ones
-  not_full r e full =
+  not-full r e full =
       let low = (numbers-facts u.settings.n u.settings.unit u.settings.entry p.settings).n-low in
       let one = mark-adds 0 m.sender (unmarked-none m.sender) in
       let enough : quorumOf u.settings.engine u.settings.n ≤ ones (bit_or 0 (2 ^ m.sender)) = leb-true _ _ full in
@@ -329,11 +329,11 @@ sound-deliver l u m w = by-conditions (Sound l u) (deliverConditions l u m) u _ 
     step : NoneHolds (deliverConditions l u m) → Sound l u (received u m)
     step n =
         by-round (Sound l u) u m
-        (λ _. sound-sends l u u refl p Skip m.sender Blank _ (and_both (and_both (lt-ltb _ _ i.below) refl) p.states.current.proposal))
-        (λ at. kind-sound l u u m refl p i (at_last l u m p n.1.1.1.0 at))
+        (λ _. sound-sends l u u refl p Skip m.sender Blank _ (and-both (and-both (lt-ltb _ _ i.below) refl) p.states.current.proposal))
+        (λ at. kind-sound l u u m refl p i (at-last l u m p n.1.1.1.0 at))
         (λ above. kind-sound l u (atRound u m.round m.proposal) m refl
         (parts-at-round l u p m.round m.proposal above i.round (kind-proposal l m.kind m (i.kind m.kind refl)))
-        i (λ _ _ full. absurd (not_full l u m p m.round m.proposal full)))
+        i (λ _ _ full. absurd (not-full l u m p m.round m.proposal full)))
       where
         i : ForThisUnit l u.settings m
         i = given l u.settings m (not-false _ n.0) n.1.1.0
@@ -342,4 +342,4 @@ pub well-fresh : (l : Limits) (s : Settings) → settingsOk s ≡ true → WellF
 unfolding fresh logOk stateOk mileageOrBlank secondEstimateOk
 well-fresh l s h =
     well-at-log l _ (record { settings = s; state = clean 0 Blank })
-    (and_both h (and_both (and_both (and_both (le-leb 0 l.lastRound (omega arith)) refl) refl) refl))
+    (and-both h (and-both (and-both (and-both (le-leb 0 l.lastRound (omega arith)) refl) refl) refl))

@@ -18,7 +18,7 @@ use Rattle.contents.specs.declared.State.{State}
 use Rattle.consensus.specs.Step.{logWrite, atRound, takeFirst, takeSecond, checksWith, secondsWith, close, onKind, skip, caughtUp, received}
 use Rattle.consensus.specs.declared.Answer.{Answer}
 use Rattle.consensus.specs.declared.Unit as U
-use Rattle.consensus.proofs.Branches.{by_kind, by-check, by-second, by-round}
+use Rattle.consensus.proofs.Branches.{by-kind, by-check, by-second, by-round}
 
 -- an estimate that is not blank stays
 abbrev pub StaysSet : Estimate → Estimate → Type 0
@@ -29,8 +29,8 @@ pub record Stays (a b : State) : Type 0 where
   pub round : a.round ≤ b.round
   pub estimates : b.round ≡ a.round → StaysSet a.first b.first × StaysSet a.second b.second
 
-stays_same : (s : State) → Stays s s
-stays_same s = record { round = omega arith; estimates = λ e. (λ n. refl, λ n. refl) }
+stays-same : (s : State) → Stays s s
+stays-same s = record { round = omega arith; estimates = λ e. (λ n. refl, λ n. refl) }
 
 stays-risen : (a b : State) → a.round < b.round → Stays a b
 stays-risen a b h = record { round = omega arith; estimates = λ e. absurd (omega arith) }
@@ -44,7 +44,7 @@ StaysTo u a = Stays u.current a.unit.current
 stays-kind : (k : Kind) (u : U.Unit) (m : Message) → StaysTo u (onKind k u m)
 unfolding takeFirst takeSecond close logWrite atRound
 stays-kind k u m =
-    by_kind (StaysTo u) k u m
+    by-kind (StaysTo u) k u m
     (record {
       nothing = same;
       first = λ _ h. record { round = omega arith; estimates = λ e. (was-blank _ _ h, λ n. refl) };
@@ -53,12 +53,12 @@ stays-kind k u m =
     })
   where
     same : Stays u.current u.current
-    same = stays_same u.current
+    same = stays-same u.current
 
 pub stays : (u : U.Unit) (m : Message) → Stays u.current (received u m).unit.current
 unfolding skip atRound
 stays u m =
-    by-round (StaysTo u) u m (λ _. stays_same u.current) (λ _. stays-kind m.kind u m)
+    by-round (StaysTo u) u m (λ _. stays-same u.current) (λ _. stays-kind m.kind u m)
     (λ h. stays-risen _ _ (omega (arith, (stays-kind m.kind (atRound u m.round m.proposal) m).round)))
 
 -- a unit that is not above a message is in its round once it has caught up
@@ -102,7 +102,7 @@ tallies-same u e = (same-held u.checks, same-held u.seconds)
 tallies-kind : (k : Kind) (u : U.Unit) (m : Message) → TalliesTo u (onKind k u m)
 unfolding takeFirst takeSecond checksWith secondsWith close logWrite atRound
 tallies-kind k u m =
-    by_kind (TalliesTo u) k u m
+    by-kind (TalliesTo u) k u m
     (record {
       nothing = tallies-same u;
       first = λ _ _. tallies-same u;

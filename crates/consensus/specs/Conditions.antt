@@ -1,6 +1,6 @@
 -- Why a call is refused: conditions in the order of the call, each a row of the scope paper's table, and the number that they give. Assumes nothing.
 use Rattle.std.specs.Prelude.{ℕ, ◌≤◌, ◌≡◌, Bool, true, false, cond, List, [], ◌∷◌, ◌⊎◌}
-use Rattle.tally.specs.Refusal.{number_of}
+use Rattle.tally.specs.Refusal.{numberOf}
 use Rattle.tally.specs.declared.Refusal.{Refusal}
 
 -- a refusal of the table, and whether its condition holds of a call
@@ -12,12 +12,12 @@ abbrev pub condition : Refusal → Bool → Condition
 condition k b = record { refusal = k; holds = b }
 
 abbrev pub conditionNumber : Condition → ℕ
-conditionNumber r = number_of r.refusal
+conditionNumber r = numberOf r.refusal
 
 -- the first condition that holds
-unfoldable pub first_of : List Condition → Refusal
-first_of [] = Refusal.None
-first_of (r ∷ rs) = cond r.holds r.refusal (first_of rs)
+unfoldable pub firstOf : List Condition → Refusal
+firstOf [] = Refusal.None
+firstOf (r ∷ rs) = cond r.holds r.refusal (firstOf rs)
 
 -- no condition holds
 abbrev pub NoneHolds : List Condition → Type 0

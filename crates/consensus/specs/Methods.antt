@@ -1,17 +1,17 @@
 -- The methods of a unit: what is refused first, and else the step. Assumes nothing.
 use Rattle.std.specs.Prelude.{ℕ, Bool, true, false, not, cond, ◌&&◌, ◌||◌, List, [], ◌∷◌, eqb}
 use Rattle.tally.specs.Limits.{Limits, everyone}
-use Rattle.tally.specs.Refusal.{number_of}
+use Rattle.tally.specs.Refusal.{numberOf}
 use Rattle.tally.specs.Tally.{isMarked}
 use Rattle.tally.specs.declared.Estimate.TheVariants.{Blank}
 use Rattle.tally.specs.declared.Refusal.{Refusal}
-use Rattle.contents.specs.Estimates.{in_range, sameEngine}
+use Rattle.contents.specs.Estimates.{inRange, sameEngine}
 use Rattle.contents.specs.Messages.{messageOk, emptyMessage}
 use Rattle.contents.specs.declared.Kind.{Kind}
 use Rattle.contents.specs.declared.Kind.TheVariants.{Empty, First, Check, Second, Skip}
 use Rattle.contents.specs.declared.Message.{Message}
 use Rattle.contents.specs.declared.Settings.{Settings}
-use Rattle.consensus.specs.Conditions.{Condition, condition, first_of}
+use Rattle.consensus.specs.Conditions.{Condition, condition, firstOf}
 use Rattle.consensus.specs.Step.{quiet, isFull, secondsWith, proposed, received, recovered}
 use Rattle.consensus.specs.Units.{unitLog, downUnit}
 use Rattle.consensus.specs.declared.Answer.{Answer}
@@ -38,7 +38,7 @@ forOther s m =
 
 -- 6: mileage out of range
 unfoldable pub outOfRange : Limits → ℕ → Bool
-outOfRange l v = not (in_range l v)
+outOfRange l v = not (inRange l v)
 
 abbrev pub isSecond : Kind → Bool
 isSecond Empty = false
@@ -64,7 +64,7 @@ refuses u k = record { refusal = k; unit = u; message = emptyMessage; decision =
 
 -- the first condition that holds refuses; where none does, the answer
 unfoldable pub unless : List Condition → U.Unit → Answer → Answer
-unless conditions u a = cond (eqb (number_of (first_of conditions)) 0) a (refuses u (first_of conditions))
+unless conditions u a = cond (eqb (numberOf (firstOf conditions)) 0) a (refuses u (firstOf conditions))
 
 -- the lowest number first, but 9 before 5, 6 and 7, as on the bench
 unfoldable pub proposeConditions : Limits → U.Unit → ℕ → List Condition

@@ -1,4 +1,6 @@
 // The unit, and what a step answers. The step is in `step`, the methods in `methods`; both are equal to their definitions in specs/.
+#![tactic(auto)]
+
 pub mod methods;
 pub mod step;
 

@@ -14,7 +14,7 @@ use Rattle.contents.specs.Images.{sameSettings, stateFits}
 use Rattle.contents.specs.declared.Settings.{Settings}
 use Rattle.contents.specs.declared.State.{State}
 use Rattle.tally.proofs.Never.{never}
-use Rattle.contents.proofs.Tests.{both_true}
+use Rattle.contents.proofs.Tests.{both-true}
 
 pub same-engine : (a b : Engine) → sameEngine a b ≡ true → a ≡ b
 same-engine B B h = refl
@@ -48,9 +48,9 @@ settings e n u t = record { engine = e; n = n; unit = u; entry = t }
 pub same-settings : (a b : Settings) → sameSettings a b ≡ true → a ≡ b
 unfolding sameSettings
 same-settings a b h =
-    let p = both_true (sameEngine a.engine b.engine && eqb a.n b.n && eqb a.unit b.unit) (eqb a.entry b.entry) h in
-    let q = both_true (sameEngine a.engine b.engine && eqb a.n b.n) (eqb a.unit b.unit) p.0 in
-    let r = both_true (sameEngine a.engine b.engine) (eqb a.n b.n) q.0 in
+    let p = both-true (sameEngine a.engine b.engine && eqb a.n b.n && eqb a.unit b.unit) (eqb a.entry b.entry) h in
+    let q = both-true (sameEngine a.engine b.engine && eqb a.n b.n) (eqb a.unit b.unit) p.0 in
+    let r = both-true (sameEngine a.engine b.engine) (eqb a.n b.n) q.0 in
     let fields : ◌≡◌ {A = Settings} (settings a.engine a.n a.unit a.entry) (settings b.engine b.n b.unit b.entry) =
     cc (
       same-engine a.engine b.engine r.0,
@@ -78,10 +78,10 @@ state-fits i s h = go (eqb i.round s.round && sameEstimate i.first s.first && sa
     go : (b : Bool) → (eqb i.round s.round && sameEstimate i.first s.first && sameEstimate i.second s.second) ≡ b
         → (b || (ltb s.round i.round && isBlank i.first && isBlank i.second)) ≡ true → Fits i s
     go false e h =
-        let p = both_true (ltb s.round i.round && isBlank i.first) (isBlank i.second) h in
-        let q = both_true (ltb s.round i.round) (isBlank i.first) p.0 in
+        let p = both-true (ltb s.round i.round && isBlank i.first) (isBlank i.second) h in
+        let q = both-true (ltb s.round i.round) (isBlank i.first) p.0 in
         inl (ltb-true _ _ q.0, (sym (same-estimate Blank _ q.1), sym (same-estimate Blank _ p.1)))
     go true e h =
-        let p = both_true _ _ e in
-        let q = both_true (eqb i.round s.round) _ p.0 in
+        let p = both-true _ _ e in
+        let q = both-true (eqb i.round s.round) _ p.0 in
         inr (sym (eqb-true i.round s.round q.0), (sym (same-estimate _ _ q.1), sym (same-estimate _ _ p.1)))

@@ -8,13 +8,13 @@ use Rattle.tally.specs.declared.Estimate.{Estimate}
 use Rattle.tally.specs.declared.Estimate.TheVariants.{Blank, Split, Mileage}
 
 -- engine B
-abbrev pub is_b : Engine → Bool
-is_b B = true
-is_b R = false
+abbrev pub isB : Engine → Bool
+isB B = true
+isB R = false
 
 -- mileage: 0 to the greatest
-abbrev pub in_range : Limits → ℕ → Bool
-in_range l m = leb m l.maxMileage
+abbrev pub inRange : Limits → ℕ → Bool
+inRange l m = leb m l.maxMileage
 
 abbrev pub isBlank : Estimate → Bool
 isBlank Blank = true
@@ -30,7 +30,7 @@ isSplit (Mileage m) = false
 abbrev pub isMileage : Limits → Estimate → Bool
 isMileage l Blank = false
 isMileage l Split = false
-isMileage l (Mileage m) = in_range l m
+isMileage l (Mileage m) = inRange l m
 
 -- a mileage or blank
 unfoldable pub mileageOrBlank : Limits → Estimate → Bool
@@ -38,15 +38,15 @@ mileageOrBlank l e = isMileage l e || isBlank e
 
 -- a mileage or, in B, split
 unfoldable pub mileageOrSplit : Limits → Engine → Estimate → Bool
-mileageOrSplit l g e = isMileage l e || (is_b g && isSplit e)
+mileageOrSplit l g e = isMileage l e || (isB g && isSplit e)
 
 -- a log's second estimate is a mileage, split or blank; in R always blank
 unfoldable pub secondEstimateOk : Limits → Engine → Estimate → Bool
-secondEstimateOk l g e = isBlank e || (is_b g && (isMileage l e || isSplit e))
+secondEstimateOk l g e = isBlank e || (isB g && (isMileage l e || isSplit e))
 
 abbrev pub sameEngine : Engine → Engine → Bool
-sameEngine B b = is_b b
-sameEngine R b = not (is_b b)
+sameEngine B b = isB b
+sameEngine R b = not (isB b)
 
 abbrev pub sameEstimate : Estimate → Estimate → Bool
 sameEstimate Blank b = isBlank b

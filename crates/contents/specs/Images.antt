@@ -7,7 +7,7 @@ use Rattle.tally.specs.Tally.{isMarked, estimateAt}
 use Rattle.tally.specs.declared.Engine.{Engine}
 use Rattle.tally.specs.declared.Estimate.{Estimate}
 use Rattle.tally.specs.declared.Tally.{Tally}
-use Rattle.contents.specs.Estimates.{is_b, isBlank, isSplit, isMileage, sameEngine, sameEstimate}
+use Rattle.contents.specs.Estimates.{isB, isBlank, isSplit, isMileage, sameEngine, sameEstimate}
 use Rattle.contents.specs.Logs.{logOk}
 use Rattle.contents.specs.declared.Image.{Image}
 use Rattle.contents.specs.declared.Log.{Log}
@@ -48,14 +48,14 @@ tallyOk l split g n t = cellsOk l split n t && ltb (ones t.marks) (quorumOf g n)
 
 -- in R, or when the second estimate is not blank, there are no CHECK marks
 unfoldable pub checksAllowed : Engine → Estimate → ℕ → Bool
-checksAllowed g second marks = (is_b g && isBlank second) || eqb marks 0
+checksAllowed g second marks = (isB g && isBlank second) || eqb marks 0
 
 -- an image (the scope paper's term): a well-formed log, and the rules of both tallies
 unfoldable pub imageOk : Limits → Image → Bool
 imageOk l i =
     logOk l (imageLog i)
     && tallyOk l false i.settings.engine i.settings.n i.checks
-    && tallyOk l (is_b i.settings.engine) i.settings.engine i.settings.n i.seconds
+    && tallyOk l (isB i.settings.engine) i.settings.engine i.settings.n i.seconds
     && checksAllowed i.settings.engine i.state.second i.checks.marks
 
 -- an image fits its log (the scope paper's term) when engine, n, unit and entry agree,

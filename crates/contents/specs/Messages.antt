@@ -3,19 +3,19 @@ use Rattle.std.specs.Prelude.{Bool, true, false, ◌&&◌, eqb, ltb}
 use Rattle.tally.specs.Limits.{Limits, everyone}
 use Rattle.tally.specs.declared.Engine.TheVariants.{B}
 use Rattle.tally.specs.declared.Estimate.TheVariants.{Blank}
-use Rattle.contents.specs.Estimates.{is_b, isBlank, mileageOrBlank, mileageOrSplit, sameMileage}
+use Rattle.contents.specs.Estimates.{isB, isBlank, mileageOrBlank, mileageOrSplit, sameMileage}
 use Rattle.contents.specs.Logs.{numbersOk, roundOk}
 use Rattle.contents.specs.declared.Kind.{Kind}
 use Rattle.contents.specs.declared.Kind.TheVariants.{Empty, First, Check, Second, Skip}
 use Rattle.contents.specs.declared.Message.{Message}
 
 -- an empty message counts as no message
-abbrev pub is_empty : Kind → Bool
-is_empty Empty = true
-is_empty First = false
-is_empty Check = false
-is_empty Second = false
-is_empty Skip = false
+abbrev pub isEmpty : Kind → Bool
+isEmpty Empty = true
+isEmpty First = false
+isEmpty Check = false
+isEmpty Second = false
+isEmpty Skip = false
 
 -- the contents of an empty message
 abbrev pub emptyMessage : Message
@@ -27,7 +27,7 @@ firstOk l m = eqb m.receiver everyone && sameMileage l m.estimate m.proposal
 
 -- C: the same, in B only
 unfoldable pub checkOk : Limits → Message → Bool
-checkOk l m = is_b m.engine && firstOk l m
+checkOk l m = isB m.engine && firstOk l m
 
 -- S: receiver is everyone; estimate a mileage or, in B, split; proposal a mileage or blank
 unfoldable pub secondOk : Limits → Message → Bool

@@ -1,4 +1,5 @@
 // What logs, images and messages hold; which of them are well formed is in specs/, and as code in crate rules.
+#![tactic(auto)]
 
 use tally::limits::Round;
 use tally::{Engine, Estimate, Tally};

@@ -1,9 +1,11 @@
 // Logs and messages between plain numbers and bytes, for the C entries.
+#![tactic(auto)]
+
 mod numbers;
 
 ghost use Rattle.std.specs.Prelude.{◌≡◌, true, length};
 ghost use Rattle.tally.specs.Limits.{today, messageSize, messageFields};
-ghost use Rattle.tally.specs.Refusal.{number_of};
+ghost use Rattle.tally.specs.Refusal.{numberOf};
 ghost use Rattle.formats.specs.Formats.{wrote};
 ghost use Rattle.formats.specs.Messages.{cleared};
 ghost use Rattle.calls.specs.Fields.{readLogCall, writeLogCall, readMessageCall, writeMessageCall};
@@ -65,7 +67,7 @@ pub fn read_message(message: &[u8], fields: &mut [u32]) -> u32
 
 // A refused message write leaves an empty message in a buffer of its length; another keeps its bytes.
 fn refuse(why: Refusal, message: &mut [u8]) -> u32
-    ensures { wrote result message.new ≡ wrote (number_of why) (cleared today message.old) }
+    ensures { wrote result message.new ≡ wrote (numberOf why) (cleared today message.old) }
 {
     message_codec::clear(message);
     tally::number(why)

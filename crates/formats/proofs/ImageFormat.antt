@@ -12,26 +12,26 @@ use Rattle.tally.specs.Tally.{Typed, blankCell, isMarked, estimateAt}
 use Rattle.tally.specs.declared.Cell.{Cell}
 use Rattle.tally.specs.declared.Engine.{Engine}
 use Rattle.tally.specs.declared.Tally.{Tally}
-use Rattle.tally.specs.Refusal.{number_of}
+use Rattle.tally.specs.Refusal.{numberOf}
 use Rattle.tally.specs.declared.Refusal.{Refusal}
-use Rattle.contents.specs.Estimates.{is_b}
+use Rattle.contents.specs.Estimates.{isB}
 use Rattle.contents.specs.Images.{imageLog, imageOk}
 use Rattle.contents.specs.Logs.{logOk}
 use Rattle.contents.specs.declared.Image.{Image}
 use Rattle.contents.proofs.Facts.{Known, TallyFacts, image-facts, known-cell}
 use Rattle.formats.specs.Codes.{engineOf}
 use Rattle.formats.specs.Formats.{reading, withZero, numbersIn}
-use Rattle.formats.specs.Images.{cell_of, cellCode, tallyWidths, tallyNumbers, tally_of, tallyFields, TypedImage, imageWidths, imageNumbers, image_of}
+use Rattle.formats.specs.Images.{cellOf, cellCode, tallyWidths, tallyNumbers, tallyOf, tallyFields, TypedImage, imageWidths, imageNumbers, imageOf}
 use Rattle.formats.specs.Images.{withTallies, parseImage, imageFormat, imageBytes, readImage, writeImage}
 use Rattle.formats.specs.Logs.{logWidths, logZero, logNumbers}
 use Rattle.formats.specs.Numbers.{Bytes}
 use Rattle.formats.specs.InnerNumbers.{packInto, total}
 use Rattle.formats.specs.RoundTrip.{RoundTrip}
 use Rattle.formats.specs.declared.EngineRead.TheVariants.{Is}
-use Rattle.formats.proofs.Letters.{engine-letter, made, code-estimate, estimate-code, code_fits}
+use Rattle.formats.proofs.Letters.{engine-letter, made, code-estimate, estimate-code, code-fits}
 use Rattle.formats.proofs.LogFormat as log
-use Rattle.formats.proofs.RoundTrips.{LawfulFormat, round_trip, read-parsed}
-use Rattle.formats.proofs.Packed.{Fit, num-fits, fit_append, packInto-append, packInto-eq}
+use Rattle.formats.proofs.RoundTrips.{LawfulFormat, round-trip, read-parsed}
+use Rattle.formats.proofs.Packed.{Fit, num-fits, fit-append, packInto-append, packInto-eq}
 
 pub length-tally : (t : Tally) → length t.cells ≡ senders → length (tallyNumbers t) ≡ length tallyWidths
 length-tally t e = ap suc (length-map t.cells cellCode ∙ e)
@@ -54,23 +54,23 @@ image-stored bs i c s size =
     ∙ packInto-eq (imageWidths today) (front ++ rest) bs 0 (simp (length-append, length-tally i.checks c, length-tally i.seconds s)) (sym size)
 
 -- any numbers are some cells'
-codes-cells : (vs : List ℕ) → map cellCode (map cell_of vs) ≡ vs
+codes-cells : (vs : List ℕ) → map cellCode (map cellOf vs) ≡ vs
 codes-cells [] = refl
 codes-cells (v ∷ vs) = ap₂ ◌∷◌ (code-estimate v) (codes-cells vs)
 
-pub numbers-tally : (vs : List ℕ) → 0 < length vs → tallyNumbers (tally_of vs) ≡ vs
+pub numbers-tally : (vs : List ℕ) → 0 < length vs → tallyNumbers (tallyOf vs) ≡ vs
 numbers-tally [] h = absurd (omega arith)
 numbers-tally (v ∷ vs) h = ap (◌∷◌ v) (codes-cells vs)
 
 numbers-image : (e : Engine) (vs : List ℕ) → length vs ≡ logFields + tallyFields + tallyFields → engineOf (get_or vs 0 0) ≡ Is e → imageNumbers
-    (image_of e vs) ≡ vs
+    (imageOf e vs) ≡ vs
 numbers-image e vs len p =
     let rest = drop logFields vs in
     let long : length rest ≡ tallyFields + tallyFields = simp length-drop (omega arith) in
     let front : length (take logFields vs) ≡ logFields = length-take-le logFields vs (omega arith) in
     let checks : length (take tallyFields rest) ≡ tallyFields = length-take-le tallyFields rest (omega arith) in
     let seconds : length (drop tallyFields rest) ≡ tallyFields = simp length-drop (omega arith) in
-    ap₂ ◌++◌ (log.numbers_of e (take logFields vs) front (ap engineOf (get_or-take logFields vs 0 0 (omega arith)) ∙ p))
+    ap₂ ◌++◌ (log.numbers-of e (take logFields vs) front (ap engineOf (get_or-take logFields vs 0 0 (omega arith)) ∙ p))
     (ap₂ ◌++◌ (numbers-tally (take tallyFields rest) (omega arith)) (numbers-tally (drop tallyFields rest) (omega arith))
     ∙ take-append-drop tallyFields rest)
     ∙ take-append-drop logFields vs
@@ -83,15 +83,15 @@ module _ (l : Limits) (sane : Sane l) where
   unfolding AllKnown
   later c cs k s h = k (suc s) (omega arith)
 
-  cells-codes : (cs : List Cell) → AllKnown cs → map cell_of (map cellCode cs) ≡ cs
+  cells-codes : (cs : List Cell) → AllKnown cs → map cellOf (map cellCode cs) ≡ cs
   unfolding AllKnown
   cells-codes [] k = refl
   cells-codes (c ∷ cs) k = rw (estimate-code l sane c.estimate (k 0 (omega arith)), cells-codes cs (later c cs k))
 
-  cells_fit : (cs : List Cell) → AllKnown cs → Fit (replicate (length cs) 4) (map cellCode cs)
+  cells-fit : (cs : List Cell) → AllKnown cs → Fit (replicate (length cs) 4) (map cellCode cs)
   unfolding AllKnown
-  cells_fit [] k = tt
-  cells_fit (c ∷ cs) k = (code_fits l sane c.estimate (k 0 (omega arith)), cells_fit cs (later c cs k))
+  cells-fit [] k = tt
+  cells-fit (c ∷ cs) k = (code-fits l sane c.estimate (k 0 (omega arith)), cells-fit cs (later c cs k))
 
   pub known-cells : (split : Bool) (g : Engine) (n : ℕ) (t : Tally) → TallyFacts l split g n t → Typed t → AllKnown t.cells
   unfolding AllKnown
@@ -99,11 +99,11 @@ module _ (l : Limits) (sane : Sane l) where
       let b : s < senders = omega (arith, typed.cells) in known-cell l split n s (isMarked t.marks s) (estimateAt t s) (f.places s b)
 
   module _ (t : Tally) (typed : Typed t) (known : AllKnown t.cells) where
-    pub tally-back : tally_of (tallyNumbers t) ≡ t
+    pub tally-back : tallyOf (tallyNumbers t) ≡ t
     tally-back = rw (cells-codes t.cells known)
 
     pub tally-fit : Fit tallyWidths (tallyNumbers t)
-    tally-fit = (omega (arith, typed.marks), rw typed.cells at (cells_fit t.cells known))
+    tally-fit = (omega (arith, typed.marks), rw typed.cells at (cells-fit t.cells known))
 
   parsed : (i : Image) → TypedImage i → imageOk l i ≡ true → parseImage (imageNumbers i) ≡ some i
   parsed i t ok =
@@ -113,20 +113,20 @@ module _ (l : Limits) (sane : Sane l) where
       let s = tallyNumbers i.seconds in
       let len : length c ≡ tallyFields = length-tally i.checks t.0.cells in
       rw (engine-letter g)
-      (ap (λ r. some (withTallies r (tally_of (take tallyFields (c ++ s))) (tally_of (drop tallyFields (c ++ s))))) (log.of-numbers l sane (imageLog i) f.log)
+      (ap (λ r. some (withTallies r (tallyOf (take tallyFields (c ++ s))) (tallyOf (drop tallyFields (c ++ s))))) (log.of-numbers l sane (imageLog i) f.log)
       ∙ ap₂ (λ x y. some (withTallies (imageLog i) x y))
-      (ap tally_of (take_at c s tallyFields len) ∙ tally-back i.checks t.0 (known-cells false g i.settings.n i.checks f.checks t.0))
-      (ap tally_of (drop_at c s tallyFields len) ∙ tally-back i.seconds t.1 (known-cells (is_b g) g i.settings.n i.seconds f.seconds t.1)))
+      (ap tallyOf (take_at c s tallyFields len) ∙ tally-back i.checks t.0 (known-cells false g i.settings.n i.checks f.checks t.0))
+      (ap tallyOf (drop_at c s tallyFields len) ∙ tally-back i.seconds t.1 (known-cells (isB g) g i.settings.n i.seconds f.seconds t.1)))
 
   fits : (i : Image) → TypedImage i → imageOk l i ≡ true → Fit (imageWidths l) (withZero logZero (imageNumbers i))
   fits i t ok =
       let f = image-facts l i ok in
       let g = i.settings.engine in
-      fit_append (logWidths l) (tallyWidths ++ tallyWidths) (withZero logZero (logNumbers (imageLog i))) (tallyNumbers i.checks ++ tallyNumbers i.seconds)
+      fit-append (logWidths l) (tallyWidths ++ tallyWidths) (withZero logZero (logNumbers (imageLog i))) (tallyNumbers i.checks ++ tallyNumbers i.seconds)
       (log.fits l sane (imageLog i) f.log)
-      (fit_append tallyWidths tallyWidths (tallyNumbers i.checks) (tallyNumbers i.seconds)
+      (fit-append tallyWidths tallyWidths (tallyNumbers i.checks) (tallyNumbers i.seconds)
       (tally-fit i.checks t.0 (known-cells false g i.settings.n i.checks f.checks t.0))
-      (tally-fit i.seconds t.1 (known-cells (is_b g) g i.settings.n i.seconds f.seconds t.1)))
+      (tally-fit i.seconds t.1 (known-cells (isB g) g i.settings.n i.seconds f.seconds t.1)))
 
   pub lawful : LawfulFormat (imageFormat l) TypedImage
   unfolding imageOk logOk
@@ -140,17 +140,17 @@ module _ (l : Limits) (sane : Sane l) where
         each = λ i t. simp (length-append, length-tally i.checks t.0.cells, length-tally i.seconds t.1.cells);
         fit = fits;
         parsed = parsed;
-        back = λ vs i len e. made (λ i. imageNumbers i ≡ vs) image_of vs i (get_or vs 0 0) (λ g p. numbers-image g vs len p) e;
+        back = λ vs i len e. made (λ i. imageNumbers i ≡ vs) imageOf vs i (get_or vs 0 0) (λ g p. numbers-image g vs len p) e;
       }
 
-  pub image-round-trip : RoundTrip TypedImage (imageOk l) (number_of Refusal.Image) (imageSize l) (readImage l) (writeImage l)
+  pub image-round-trip : RoundTrip TypedImage (imageOk l) (numberOf Refusal.Image) (imageSize l) (readImage l) (writeImage l)
   unfolding readImage writeImage
-  image-round-trip = round_trip (imageFormat l) TypedImage lawful _
+  image-round-trip = round-trip (imageFormat l) TypedImage lawful _
 
 -- what is read has the code's types
 pub read-typed : (l : Limits) (sane : Sane l) (bs : List ℕ) (i : Image) → Bytes bs → readImage l bs ≡ reading 0 i → TypedImage i
 unfolding readImage
 read-typed l sane bs i b e =
-    made TypedImage image_of (numbersIn (imageFormat l) bs) i (get_or (numbersIn (imageFormat l) bs) 0 0)
+    made TypedImage imageOf (numbersIn (imageFormat l) bs) i (get_or (numbersIn (imageFormat l) bs) 0 0)
     (λ g p. (record { marks = num-fits 2 _ bs b; cells = refl }, record { marks = num-fits 2 _ bs b; cells = refl }))
     (read-parsed (imageFormat l) TypedImage (lawful l sane) bs i e)

@@ -19,7 +19,7 @@ use Rattle.contents.specs.Estimates.{isBlank}
 use Rattle.contents.specs.declared.Kind.{Kind}
 use Rattle.contents.specs.declared.Kind.TheVariants.{Empty, First, Check, Second, Skip}
 use Rattle.contents.proofs.Facts.{Known}
-use Rattle.formats.specs.Codes.{letterOf, engineOf, withEngine, kindLetter, kind_of, code_of, estimateOf}
+use Rattle.formats.specs.Codes.{letterOf, engineOf, withEngine, kindLetter, kindOf, codeOf, estimateOf}
 use Rattle.formats.specs.declared.EngineRead.{EngineRead}
 use Rattle.formats.specs.declared.KindRead.{KindRead}
 
@@ -50,21 +50,21 @@ made P make vs a x f h = go (engineOf x) refl h
     go EngineRead.Unknown p h = never cc
 
 -- a kind's letter is read as the kind, unless it is the empty message's
-pub kind-letter : (k : Kind) → (k ≡ Empty → ⊥) → kind_of (kindLetter k) ≡ KindRead.Is k
+pub kind-letter : (k : Kind) → (k ≡ Empty → ⊥) → kindOf (kindLetter k) ≡ KindRead.Is k
 kind-letter Empty n = absurd (n refl)
 kind-letter First n = refl
 kind-letter Check n = refl
 kind-letter Second n = refl
 kind-letter Skip n = refl
 
-pub kind_fits : (k : Kind) → kindLetter k < 256 ^ 1
-kind_fits Empty = omega arith
-kind_fits First = omega arith
-kind_fits Check = omega arith
-kind_fits Second = omega arith
-kind_fits Skip = omega arith
+pub kind-fits : (k : Kind) → kindLetter k < 256 ^ 1
+kind-fits Empty = omega arith
+kind-fits First = omega arith
+kind-fits Check = omega arith
+kind-fits Second = omega arith
+kind-fits Skip = omega arith
 
-pub letter-kind : (x : ℕ) (k : Kind) → kind_of x ≡ KindRead.Is k → kindLetter k ≡ x
+pub letter-kind : (x : ℕ) (k : Kind) → kindOf x ≡ KindRead.Is k → kindLetter k ≡ x
 letter-kind x k h = go (eqb x (kindLetter First)) (eqb x (kindLetter Check)) (eqb x (kindLetter Second)) (eqb x (kindLetter Skip)) refl refl refl refl h
   where
     go : (t u v w : Bool) → eqb x (kindLetter First) ≡ t → eqb x (kindLetter Check) ≡ u → eqb x (kindLetter Second) ≡ v → eqb x
@@ -78,26 +78,26 @@ letter-kind x k h = go (eqb x (kindLetter First)) (eqb x (kindLetter Check)) (eq
     go false false false false p q r s e = never cc
 
 -- any number is some estimate's
-pub code-estimate : (x : ℕ) → code_of (estimateOf x) ≡ x
+pub code-estimate : (x : ℕ) → codeOf (estimateOf x) ≡ x
 code-estimate x = go (eqb x blankCode) (eqb x splitCode) refl refl
   where
-    go : (t u : Bool) → eqb x blankCode ≡ t → eqb x splitCode ≡ u → code_of (cond t Blank (cond u Split (Mileage x))) ≡ x
+    go : (t u : Bool) → eqb x blankCode ≡ t → eqb x splitCode ≡ u → codeOf (cond t Blank (cond u Split (Mileage x))) ≡ x
     go true u p q = sym (eqb-true _ _ p)
     go false true p q = sym (eqb-true _ _ q)
     go false false p q = refl
 
 module _ (l : Limits) (sane : Sane l) where
-  pub estimate-code : (e : Estimate) → Known l e → estimateOf (code_of e) ≡ e
+  pub estimate-code : (e : Estimate) → Known l e → estimateOf (codeOf e) ≡ e
   estimate-code Blank k = refl
   estimate-code Split k = refl
   estimate-code (Mileage m) k =
       let below = sane.mileage-below-split in
       rw (ne_eqb m blankCode (λ e. omega (arith, split-below-blank)), ne_eqb m splitCode (λ e. omega arith))
 
-  pub code_fits : (e : Estimate) → Known l e → code_of e < 256 ^ 4
-  code_fits Blank k = blank-fits
-  code_fits Split k = omega (arith, split-below-blank, blank-fits)
-  code_fits (Mileage m) k = omega (arith, sane.mileage-below-split, split-below-blank, blank-fits)
+  pub code-fits : (e : Estimate) → Known l e → codeOf e < 256 ^ 4
+  code-fits Blank k = blank-fits
+  code-fits Split k = omega (arith, split-below-blank, blank-fits)
+  code-fits (Mileage m) k = omega (arith, sane.mileage-below-split, split-below-blank, blank-fits)
 
 -- the elements of a list from place o on, one by one
 abbrev spread : ℕ → ℕ → List ℕ → List ℕ

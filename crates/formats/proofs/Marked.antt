@@ -64,19 +64,19 @@ place-held false (Mileage m) h = never h
 
 -- a well-formed tally is as its marks have it
 module _ (l : Limits) (split : Bool) (g : Engine) (n : ℕ) (t : Tally) (f : TallyFacts l split g n t) (typed : Typed t) where
-  all_held : (k s : ℕ) → s + k ≡ senders → heldFrom t s k ≡ drop s t.cells
+  all-held : (k s : ℕ) → s + k ≡ senders → heldFrom t s k ≡ drop s t.cells
   unfolding heldFrom held
-  all_held zero s e = let all : length t.cells ≤ s = omega (arith, typed.cells) in sym (drop_of_length-le t.cells all)
-  all_held (suc k) s e =
+  all-held zero s e = let all : length t.cells ≤ s = omega (arith, typed.cells) in sym (drop_of_length-le t.cells all)
+  all-held (suc k) s e =
       let below : s < senders = omega arith in
       let long : s < length t.cells = omega (arith, typed.cells) in
       ap₂ (λ (x : Estimate) (cs : List Cell). record { estimate = x } ∷ cs)
       (place-held (isMarked t.marks s) (estimateAt t s) (f.places s below).unmarked)
-      (all_held k (suc s) (omega arith) ∙ ap (λ (j : ℕ). drop j t.cells) (sym (add-one s)))
+      (all-held k (suc s) (omega arith) ∙ ap (λ (j : ℕ). drop j t.cells) (sym (add-one s)))
       ∙ sym (drop-step t.cells s blankCell long)
 
   pub as-marked : asMarked t ≡ t
-  as-marked = ap (λ (cs : List Cell). record { marks = t.marks; cells = cs }) (all_held senders 0 refl)
+  as-marked = ap (λ (cs : List Cell). record { marks = t.marks; cells = cs }) (all-held senders 0 refl)
 
 -- ---- places that are not marked
 

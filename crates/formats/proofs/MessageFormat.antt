@@ -7,7 +7,7 @@ use mathlib.Core.Option.{some}
 use native.Mathlib.Omega.{arith}
 use lib.ListN.{length, get_or}
 use Rattle.tally.specs.Limits.{Limits, messageSize, messageFields, Sane}
-use Rattle.tally.specs.Refusal.{number_of}
+use Rattle.tally.specs.Refusal.{numberOf}
 use Rattle.tally.specs.declared.Refusal.{Refusal}
 use Rattle.tally.proofs.Bounds.{entry-fits, units-fit, everyone-fits}
 use Rattle.contents.specs.Messages.{kindOk, messageOk}
@@ -16,7 +16,7 @@ use Rattle.contents.specs.declared.Kind.TheVariants.{Empty}
 use Rattle.contents.specs.declared.Message.{Message}
 use Rattle.contents.proofs.Facts.{message-facts}
 use Rattle.tally.proofs.Never.{never}
-use Rattle.formats.specs.Codes.{engineOf, kind_of}
+use Rattle.formats.specs.Codes.{engineOf, kindOf}
 use Rattle.formats.specs.Formats.{withZero}
 use Rattle.formats.specs.Messages.{cleared, messageWidths, messageZero, messageNumbers, messageOf, lettersRead, parseMessage, messageFormat, readMessage}
 use Rattle.formats.specs.Messages.{writeMessage}
@@ -25,11 +25,11 @@ use Rattle.formats.specs.declared.EngineRead.{EngineRead}
 use Rattle.formats.specs.declared.EngineRead.TheVariants.{Is, Unknown}
 use Rattle.formats.specs.declared.KindRead.{KindRead}
 use Rattle.formats.specs.declared.KindRead.TheVariants.{Is as KindIs, Unknown as KindUnknown}
-use Rattle.formats.proofs.Letters.{engine-letter, letter-fits, letter-engine, kind-letter, kind_fits, letter-kind, code-estimate, estimate-code}
-use Rattle.formats.proofs.Letters.{code_fits, spread-whole}
-use Rattle.formats.proofs.RoundTrips.{LawfulFormat, round_trip}
+use Rattle.formats.proofs.Letters.{engine-letter, letter-fits, letter-engine, kind-letter, kind-fits, letter-kind, code-estimate, estimate-code}
+use Rattle.formats.proofs.Letters.{code-fits, spread-whole}
+use Rattle.formats.proofs.RoundTrips.{LawfulFormat, round-trip}
 use Rattle.formats.proofs.Packed.{Fit}
-use Rattle.formats.proofs.Steps.{write_kept}
+use Rattle.formats.proofs.Steps.{write-kept}
 
 -- no well-formed message is empty
 not-empty : (l : Limits) (k : Kind) (m : Message) → kindOk l k m ≡ true → k ≡ Empty → ⊥
@@ -47,7 +47,7 @@ module _ (l : Limits) (sane : Sane l) where
       let receiver : m.receiver < 256 ^ 1 = omega (arith, k.receiver, everyone-fits) in
       let entry : m.entry < 256 ^ 2 = omega (arith, n.entry-high, entry-fits) in
       let round : m.round < 256 ^ l.roundWidth = omega (arith, f.round, sane.round-fits) in (
-        kind_fits m.kind,
+        kind-fits m.kind,
         (
           letter-fits m.engine,
           (
@@ -62,7 +62,7 @@ module _ (l : Limits) (sane : Sane l) where
                     entry,
                     (
                       round,
-                      (code_fits l sane m.estimate k.estimate, (code_fits l sane m.proposal k.proposal, tt)),
+                      (code-fits l sane m.estimate k.estimate, (code-fits l sane m.proposal k.proposal, tt)),
                     ),
                   ),
                 ),
@@ -84,7 +84,7 @@ module _ (l : Limits) (sane : Sane l) where
         each = λ m t. refl;
         fit = λ m t ok. fits m ok;
         parsed = λ m t ok. parsed m ok;
-        back = λ vs m len e. back vs m len (kind_of (get_or vs 0 0)) (engineOf (get_or vs 1 0)) refl refl e;
+        back = λ vs m len e. back vs m len (kindOf (get_or vs 0 0)) (engineOf (get_or vs 1 0)) refl refl e;
       }
     where
       parsed : (m : Message) → messageOk l m ≡ true → parseMessage (messageNumbers m) ≡ some m
@@ -98,7 +98,7 @@ module _ (l : Limits) (sane : Sane l) where
           )
 
       back : (vs : List ℕ) (m : Message) → length vs ≡ messageFields → (a : KindRead) (o : EngineRead)
-          → kind_of (get_or vs 0 0) ≡ a → engineOf (get_or vs 1 0) ≡ o → lettersRead a o vs ≡ some m → messageNumbers m ≡ vs
+          → kindOf (get_or vs 0 0) ≡ a → engineOf (get_or vs 1 0) ≡ o → lettersRead a o vs ≡ some m → messageNumbers m ≡ vs
       back vs m len (KindIs k) (Is e) p q h =
           let same : messageOf k e vs ≡ m = cc in
           rw (← same)
@@ -107,11 +107,11 @@ module _ (l : Limits) (sane : Sane l) where
       back vs m len (KindIs k) Unknown p q h = never cc
       back vs m len KindUnknown o p q h = never cc
 
-  pub message-round-trip : RoundTrip (λ m. Unit) (messageOk l) (number_of Refusal.Message) (messageSize l) (readMessage l) (writeMessage l)
+  pub message-round-trip : RoundTrip (λ m. Unit) (messageOk l) (numberOf Refusal.Message) (messageSize l) (readMessage l) (writeMessage l)
   unfolding readMessage writeMessage
-  message-round-trip = round_trip (messageFormat l) (λ m. Unit) lawful _
+  message-round-trip = round-trip (messageFormat l) (λ m. Unit) lawful _
 
   -- a refused message write leaves an empty message in a buffer of its length
   pub message-kept : (m : Message) (bs : List ℕ) → ((writeMessage l m bs).number ≡ 0 → ⊥) → (writeMessage l m bs).out ≡ cleared l bs
   unfolding writeMessage
-  message-kept m bs n = write_kept (messageFormat l) bs m (cleared l bs) n
+  message-kept m bs n = write-kept (messageFormat l) bs m (cleared l bs) n

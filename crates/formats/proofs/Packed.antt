@@ -7,7 +7,7 @@ use native.Mathlib.Numerals.{add-one}
 use native.Mathlib.Omega.{arith}
 use lib.ListN.{length, get_or, take, drop, length-append, length-drop, take-append-drop, drop_of_length-le, replicate}
 use lib.Seq.{sets, sets-eq, take_at, drop_at, drop-append-le, get_or_at, get_or-drop, take-suc, take_all, drop-drop, length-take-le, length-sets, drop-cons}
-use Rattle.formats.specs.Numbers.{num_at, bytes_of, Bytes, unpack, pack}
+use Rattle.formats.specs.Numbers.{numAt, bytesOf, Bytes, unpack, pack}
 use Rattle.formats.specs.InnerNumbers.{packInto, total}
 
 -- each number fits its width, and there is one for each
@@ -17,42 +17,42 @@ Fit [] (v ∷ vs) = ⊥
 Fit (w ∷ ws) [] = ⊥
 Fit (w ∷ ws) (v ∷ vs) = (v < 256 ^ w) × Fit ws vs
 
-length-bytesOf : (k x : ℕ) → length (bytes_of k x) ≡ k
-unfolding bytes_of
+length-bytesOf : (k x : ℕ) → length (bytesOf k x) ≡ k
+unfolding bytesOf
 length-bytesOf zero x = refl
 length-bytesOf (suc k) x = simp (length-append, length-bytesOf k (x / 256)) (add-one k)
 
 -- a number that was read fits its bytes
-pub num-fits : (k o : ℕ) (bs : List ℕ) → Bytes bs → num_at bs o k < 256 ^ k
-unfolding num_at
+pub num-fits : (k o : ℕ) (bs : List ℕ) → Bytes bs → numAt bs o k < 256 ^ k
+unfolding numAt
 num-fits zero o bs b = omega arith
 num-fits (suc k) o bs b = rw pow-suc (omega (arith, num-fits k o bs b, b (o + k)))
 
 -- what was stored is read back
-pub num-bytes : (k x : ℕ) (p q : List ℕ) (o : ℕ) → length p ≡ o → x < 256 ^ k → num_at (p ++ (bytes_of k x ++ q)) o k ≡ x
-unfolding num_at bytes_of
+pub num-bytes : (k x : ℕ) (p q : List ℕ) (o : ℕ) → length p ≡ o → x < 256 ^ k → numAt (p ++ (bytesOf k x ++ q)) o k ≡ x
+unfolding numAt bytesOf
 num-bytes zero x p q o e h = omega arith
 num-bytes (suc k) x p q o e h =
-    let b = bytes_of k (x / 256) in
+    let b = bytesOf k (x / 256) in
     let r : List ℕ = x % 256 ∷ q in
     let h' : x < 256 ^ k * 256 = rw pow-suc at h in
     let len : length (p ++ b) ≡ o + k = simp (length-append, length-bytesOf) (omega arith) in
-    let i : num_at (p ++ (b ++ r)) o k ≡ x / 256 = num-bytes k (x / 256) p r o e (omega arith) in
+    let i : numAt (p ++ (b ++ r)) o k ≡ x / 256 = num-bytes k (x / 256) p r o e (omega arith) in
     let j : get_or (p ++ (b ++ r)) (o + k) 0 ≡ x % 256 = rw (← append_assoc p b r) (get_or_at (p ++ b) (x % 256) q 0 (o + k) len) in
     rw (append_assoc b (x % 256 ∷ []) q, i, j) (omega arith)
 
 -- what was read is stored back
-pub bytes-num : (k o : ℕ) (bs : List ℕ) → Bytes bs → o + k ≤ length bs → bytes_of k (num_at bs o k) ≡ take k (drop o bs)
-unfolding num_at bytes_of
+pub bytes-num : (k o : ℕ) (bs : List ℕ) → Bytes bs → o + k ≤ length bs → bytesOf k (numAt bs o k) ≡ take k (drop o bs)
+unfolding numAt bytesOf
 bytes-num zero o bs b h = refl
 bytes-num (suc k) o bs b h =
     let g = get_or bs (o + k) 0 in
-    let n = num_at bs o k in
+    let n = numAt bs o k in
     let small : g < 256 = b (o + k) in
     let d : (n * 256 + g) / 256 ≡ n = omega arith in
     let m : (n * 256 + g) % 256 ≡ g = omega arith in
     let at : k < length (drop o bs) = simp length-drop (omega arith) in
-    let i : bytes_of k n ≡ take k (drop o bs) = bytes-num k o bs b (omega arith) in
+    let i : bytesOf k n ≡ take k (drop o bs) = bytes-num k o bs b (omega arith) in
     rw (d, m, i, take-suc (drop o bs) k 0 at, get_or-drop o bs k 0)
 
 pub unpack-part : (ws vs p q : List ℕ) (o : ℕ) → length p ≡ o → Fit ws vs → unpack o ws (p ++ (pack ws vs ++ q)) ≡ vs
@@ -60,10 +60,10 @@ unpack-part [] [] p q o e h = refl
 unpack-part [] (v ∷ vs) p q o e h = absurd h
 unpack-part (w ∷ ws) [] p q o e h = absurd h
 unpack-part (w ∷ ws) (v ∷ vs) p q o e h =
-    let b = bytes_of w v in
+    let b = bytesOf w v in
     let r = pack ws vs ++ q in
     let len : length (p ++ b) ≡ o + w = simp (length-append, length-bytesOf) (omega arith) in
-    let i : num_at (p ++ (b ++ r)) o w ≡ v = num-bytes w v p r o e h.0 in
+    let i : numAt (p ++ (b ++ r)) o w ≡ v = num-bytes w v p r o e h.0 in
     let j : unpack (o + w) ws (p ++ (b ++ r)) ≡ vs = rw (← append_assoc p b r) (unpack-part ws vs (p ++ b) q (o + w) len h.1) in
     rw (append_assoc b (pack ws vs) q, i, j)
 
@@ -80,7 +80,7 @@ pub packInto-eq : (ws vs bs : List ℕ) (o : ℕ) → length vs ≡ length ws �
 packInto-eq [] vs bs o n e = simp append-nil (sym (take_all o bs (omega arith)))
 packInto-eq (w ∷ ws) [] bs o n e = let z : ⊥ = omega arith in absurd z
 packInto-eq (w ∷ ws) (v ∷ vs) bs o n e =
-    let b = bytes_of w v in
+    let b = bytesOf w v in
     let lb : length b ≡ w = length-bytesOf w v in
     let len : length (take o bs ++ b) ≡ o + w = simp (length-append, length-bytesOf, length-take-le o bs (omega arith)) in
     let same : o + w + total ws ≡ length (sets bs o b) = simp length-sets (omega arith) in
@@ -97,13 +97,13 @@ packInto-append [] ws' [] vs' bs o e = rw add-zero
 packInto-append [] ws' (v ∷ vs) vs' bs o e = let z : ⊥ = omega arith in absurd z
 packInto-append (w ∷ ws) ws' [] vs' bs o e = let z : ⊥ = omega arith in absurd z
 packInto-append (w ∷ ws) ws' (v ∷ vs) vs' bs o e =
-    rw (← add_assoc o w (total ws)) (packInto-append ws ws' vs vs' (sets bs o (bytes_of w v)) (o + w) (omega arith))
+    rw (← add_assoc o w (total ws)) (packInto-append ws ws' vs vs' (sets bs o (bytesOf w v)) (o + w) (omega arith))
 
-pub fit_append : (ws ws' vs vs' : List ℕ) → Fit ws vs → Fit ws' vs' → Fit (ws ++ ws') (vs ++ vs')
-fit_append [] ws' [] vs' h g = g
-fit_append [] ws' (v ∷ vs) vs' h g = absurd h
-fit_append (w ∷ ws) ws' [] vs' h g = absurd h
-fit_append (w ∷ ws) ws' (v ∷ vs) vs' h g = (h.0, fit_append ws ws' vs vs' h.1 g)
+pub fit-append : (ws ws' vs vs' : List ℕ) → Fit ws vs → Fit ws' vs' → Fit (ws ++ ws') (vs ++ vs')
+fit-append [] ws' [] vs' h g = g
+fit-append [] ws' (v ∷ vs) vs' h g = absurd h
+fit-append (w ∷ ws) ws' [] vs' h g = absurd h
+fit-append (w ∷ ws) ws' (v ∷ vs) vs' h g = (h.0, fit-append ws ws' vs vs' h.1 g)
 
 pub length-pack : (ws vs : List ℕ) → Fit ws vs → length (pack ws vs) ≡ total ws
 length-pack [] [] h = refl
@@ -122,7 +122,7 @@ pack-append [] ws' [] vs' e = refl
 pack-append [] ws' (v ∷ vs) vs' e = let z : ⊥ = omega arith in absurd z
 pack-append (w ∷ ws) ws' [] vs' e = let z : ⊥ = omega arith in absurd z
 pack-append (w ∷ ws) ws' (v ∷ vs) vs' e =
-    rw (pack-append ws ws' vs vs' (omega arith)) (sym (append_assoc (bytes_of w v) (pack ws vs) (pack ws' vs')))
+    rw (pack-append ws ws' vs vs' (omega arith)) (sym (append_assoc (bytesOf w v) (pack ws vs) (pack ws' vs')))
 
 pub length-packed : (ws vs : List ℕ) → length vs ≡ length ws → length (pack ws vs) ≡ total ws
 length-packed [] vs e = refl
@@ -143,7 +143,7 @@ packInto-part [] vs p [] q o e n k = refl
 packInto-part [] vs p (x ∷ a) q o e n k = let z : ⊥ = omega arith in absurd z
 packInto-part (w ∷ ws) [] p a q o e n k = let z : ⊥ = omega arith in absurd z
 packInto-part (w ∷ ws) (v ∷ vs) p a q o e n k =
-    let b = bytes_of w v in
+    let b = bytesOf w v in
     let lb : length b ≡ w = length-bytesOf w v in
     let len : length (p ++ b) ≡ o + w = simp (length-append, length-bytesOf) (omega arith) in
     let left : length (drop (length b) a) ≡ total ws = simp length-drop (omega arith) in

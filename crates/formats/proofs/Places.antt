@@ -13,7 +13,7 @@ use Rattle.tally.specs.Tally.{Typed, isMarked, blankCell, estimateAt, held}
 use Rattle.tally.specs.declared.Engine.{Engine}
 use Rattle.tally.specs.declared.Estimate.TheVariants.{Blank}
 use Rattle.tally.specs.declared.Tally.{Tally}
-use Rattle.tally.specs.Refusal.{number_of}
+use Rattle.tally.specs.Refusal.{numberOf}
 use Rattle.tally.specs.declared.Refusal.{Refusal}
 use Rattle.tally.proofs.Bounds.{sane-today}
 use Rattle.contents.specs.Images.{imageOk, fits}
@@ -22,16 +22,16 @@ use Rattle.contents.specs.declared.Log.{Log}
 use Rattle.contents.specs.declared.Settings.{Settings}
 use Rattle.contents.specs.declared.State.{State}
 use Rattle.contents.proofs.Facts.{TallyFacts, image-facts}
-use Rattle.contents.proofs.Tests.{both_true}
-use Rattle.formats.specs.Codes.{letterOf, code_of, estimateOf}
+use Rattle.contents.proofs.Tests.{both-true}
+use Rattle.formats.specs.Codes.{letterOf, codeOf, estimateOf}
 use Rattle.formats.specs.Formats.{reading, checked, withZero}
 use Rattle.formats.specs.declared.StateRead.{StateRead}
-use Rattle.formats.specs.Images.{TypedImage, cell_of, cellCode, cellWidths, tallyWidths, tally_of, tallyNumbers, withTallies, imageWidths, imageNumbers}
+use Rattle.formats.specs.Images.{TypedImage, cellOf, cellCode, cellWidths, tallyWidths, tallyOf, tallyNumbers, withTallies, imageWidths, imageNumbers}
 use Rattle.formats.specs.Images.{imageFormat, imageBytes, noImage}
 use Rattle.formats.specs.InnerImages.{tallyAt, fitState, checksAt, secondsAt, inImage, asMarked, tallyFrom, stateOver, tallyOver, imageOver}
 use Rattle.formats.specs.Logs.{logZero}
 use Rattle.formats.specs.InnerLogs.{settingsWidths, stateWidths, stateNumbers, roundAt}
-use Rattle.formats.specs.Numbers.{num_at, bytes_of, unpack, pack}
+use Rattle.formats.specs.Numbers.{numAt, bytesOf, unpack, pack}
 use Rattle.formats.specs.InnerNumbers.{packInto, total}
 use Rattle.formats.proofs.ImageFormat as image
 use Rattle.formats.proofs.Marked.{length-held, typed-marked, as-marked}
@@ -44,20 +44,20 @@ withState s i = record { settings = i.settings; state = s }
 -- ---- a tally's places
 
 -- the number in a place of the estimates
-cell_at : (n k o : ℕ) (bs : List ℕ) → k < n → get_or (map cell_of (unpack o (replicate n 4) bs)) k blankCell ≡ cell_of (num_at bs (o + 4 * k) 4)
-cell_at zero k o bs h = absurd (omega arith)
-cell_at (suc n) zero o bs h = let e : o + 4 * 0 ≡ o = omega arith in rw e
-cell_at (suc n) (suc k) o bs h =
+cell-at : (n k o : ℕ) (bs : List ℕ) → k < n → get_or (map cellOf (unpack o (replicate n 4) bs)) k blankCell ≡ cellOf (numAt bs (o + 4 * k) 4)
+cell-at zero k o bs h = absurd (omega arith)
+cell-at (suc n) zero o bs h = let e : o + 4 * 0 ≡ o = omega arith in rw e
+cell-at (suc n) (suc k) o bs h =
     let e : o + 4 + 4 * k ≡ o + 4 * suc k = omega arith in
-    cell_at n k (o + 4) bs (omega arith) ∙ ap (λ (x : ℕ). cell_of (num_at bs x 4)) e
+    cell-at n k (o + 4) bs (omega arith) ∙ ap (λ (x : ℕ). cellOf (numAt bs x 4)) e
 
-pub held_at : (marks o k : ℕ) (bs : List ℕ) → k < senders
-    → held (record { marks = marks; cells = map cell_of (unpack o cellWidths bs) }) k ≡ cond (isMarked marks k) (estimateOf (num_at bs (o + 4 * k) 4)) Blank
+pub held-at : (marks o k : ℕ) (bs : List ℕ) → k < senders
+    → held (record { marks = marks; cells = map cellOf (unpack o cellWidths bs) }) k ≡ cond (isMarked marks k) (estimateOf (numAt bs (o + 4 * k) 4)) Blank
 unfolding held
-held_at marks o k bs h = rw (cell_at senders k o bs h)
+held-at marks o k bs h = rw (cell-at senders k o bs h)
 
-pub estimate-at : (o k : ℕ) (bs : List ℕ) → k < senders → estimateAt (tallyAt o bs) k ≡ estimateOf (num_at bs (o + 2 + 4 * k) 4)
-estimate-at o k bs h = rw (cell_at senders k (o + 2) bs h)
+pub estimate-at : (o k : ℕ) (bs : List ℕ) → k < senders → estimateAt (tallyAt o bs) k ≡ estimateOf (numAt bs (o + 2 + 4 * k) 4)
+estimate-at o k bs h = rw (cell-at senders k (o + 2) bs h)
 
 -- ---- an image that is tested where it stands
 
@@ -66,7 +66,7 @@ pub fit-checked : (i : Image) (log : Log)
 unfolding fitState
 fit-checked i log = go (imageOk today i)
   where
-    go : (b : Bool) → fitState (cond b (reading 0 i) (reading (number_of Refusal.Image) noImage)) log
+    go : (b : Bool) → fitState (cond b (reading 0 i) (reading (numberOf Refusal.Image) noImage)) log
         ≡ cond (b && fits i log) (StateRead.Fits i.state) StateRead.Unfit
     go true = refl
     go false = refl
@@ -115,8 +115,8 @@ length-image i t =
 -- a round that was stored is read back
 round-there : (i : Image) → TypedImage i → i.state.round < 256 ^ today.roundWidth → roundAt (imageBytes today i) ≡ i.state.round
 round-there i t fit =
-    let a = bytes_of today.roundWidth i.state.round in
-    let r = pack (4 ∷ 4 ∷ 4 ∷ []) (code_of i.state.proposal ∷ code_of i.state.first ∷ code_of i.state.second ∷ []) in
+    let a = bytesOf today.roundWidth i.state.round in
+    let r = pack (4 ∷ 4 ∷ 4 ∷ []) (codeOf i.state.proposal ∷ codeOf i.state.first ∷ codeOf i.state.second ∷ []) in
     let q = tallyBytes i.checks ++ tallyBytes i.seconds in
     rw (image-parts i t, append_assoc a r q)
     (num-bytes today.roundWidth i.state.round (settingsBytes i) (r ++ q) (total settingsWidths) (length-settings i) fit)
@@ -134,17 +134,17 @@ front : Image → List ℕ
 front i = settingsBytes i ++ stateBytes i.state
 
 module _ (i : Image) (t : TypedImage i) where
-  length_front : length (front i) ≡ checksAt
+  length-front : length (front i) ≡ checksAt
   unfolding front
-  length_front = length-append (settingsBytes i) (stateBytes i.state) ∙ omega (arith, length-settings i, length-state i.state)
+  length-front = length-append (settingsBytes i) (stateBytes i.state) ∙ omega (arith, length-settings i, length-state i.state)
 
   -- before each tally what stands before it, and after it the rest
   by-checks : imageBytes today i ≡ front i ++ (tallyBytes i.checks ++ tallyBytes i.seconds)
   unfolding front
   by-checks = image-parts i t ∙ sym (append_assoc (settingsBytes i) (stateBytes i.state) (tallyBytes i.checks ++ tallyBytes i.seconds))
 
-  length_before : length (front i ++ tallyBytes i.checks) ≡ secondsAt
-  length_before = length-append (front i) (tallyBytes i.checks) ∙ omega (arith, length_front, length-counted i.checks t.0.cells)
+  length-before : length (front i ++ tallyBytes i.checks) ≡ secondsAt
+  length-before = length-append (front i) (tallyBytes i.checks) ∙ omega (arith, length-front, length-counted i.checks t.0.cells)
 
   by-seconds : imageBytes today i ≡ (front i ++ tallyBytes i.checks) ++ (tallyBytes i.seconds ++ [])
   by-seconds =
@@ -157,9 +157,9 @@ tally-over : (same : Bool) (t old : Tally) (p q : List ℕ) (o : ℕ) → Typed 
     → tallyOver o same t (p ++ (tallyBytes old ++ q)) ≡ p ++ (tallyBytes (asMarked t) ++ q)
 tally-over same t old p q o typed len kept = rw there (go (same && eqb t.marks old.marks) refl)
   where
-    there : num_at (p ++ (tallyBytes old ++ q)) o 2 ≡ old.marks
+    there : numAt (p ++ (tallyBytes old ++ q)) o 2 ≡ old.marks
     there =
-        let a = bytes_of 2 old.marks in
+        let a = bytesOf 2 old.marks in
         let r = pack cellWidths (map cellCode old.cells) in
         rw (append_assoc a r q) (num-bytes 2 old.marks p (r ++ q) o len (omega (arith, typed.marks)))
 
@@ -167,7 +167,7 @@ tally-over same t old p q o typed len kept = rw there (go (same && eqb t.marks o
         → cond b (p ++ (tallyBytes old ++ q)) (packInto (p ++ (tallyBytes old ++ q)) o tallyWidths (tallyNumbers (asMarked t)))
         ≡ p ++ (tallyBytes (asMarked t) ++ q)
     go true e =
-        let h = both_true same (eqb t.marks old.marks) e in
+        let h = both-true same (eqb t.marks old.marks) e in
         ap (λ (x : Tally). p ++ (tallyBytes x ++ q)) (sym (kept h.0 (eqb-true _ _ h.1)))
     go false e =
         packInto-part tallyWidths (tallyNumbers (asMarked t)) p (tallyBytes old) q o len (length-counted old typed.cells)
@@ -187,10 +187,10 @@ image-over i s c d t tc td fit kc kd =
     rw (round-there i t fit, state-written s i t)
     (ap (λ (bs : List ℕ). tallyOver secondsAt same d (tallyOver checksAt same c bs)) (by-checks j t)
     ∙ ap (tallyOver secondsAt same d)
-    (tally-over same c i.checks (front j) (tallyBytes i.seconds) checksAt t.0 (length_front j t) (λ e. kc (eqb-true _ _ e))
+    (tally-over same c i.checks (front j) (tallyBytes i.seconds) checksAt t.0 (length-front j t) (λ e. kc (eqb-true _ _ e))
     ∙ sym (by-checks k (typed-marked c tc, t.1))
     ∙ by-seconds k (typed-marked c tc, t.1))
-    ∙ tally-over same d i.seconds (front k ++ tallyBytes (asMarked c)) [] secondsAt t.1 (length_before k (typed-marked c tc, t.1))
+    ∙ tally-over same d i.seconds (front k ++ tallyBytes (asMarked c)) [] secondsAt t.1 (length-before k (typed-marked c tc, t.1))
     (λ e. kd (eqb-true _ _ e))
     ∙ sym (by-seconds z (typed-marked c tc, typed-marked d td)))
 
@@ -204,7 +204,7 @@ tally-read split g n t bs p q o typed facts size e len =
     let known = image.known-cells today sane-today split g n t facts typed in
     rw (eq-eqb _ _ size)
     (ap (λ (xs : List ℕ). asMarked (tallyAt o xs)) e
-    ∙ ap (λ (vs : List ℕ). asMarked (tally_of vs)) (unpack-part tallyWidths (tallyNumbers t) p q o len (image.tally-fit today sane-today t typed known))
+    ∙ ap (λ (vs : List ℕ). asMarked (tallyOf vs)) (unpack-part tallyWidths (tallyNumbers t) p q o len (image.tally-fit today sane-today t typed known))
     ∙ ap asMarked (image.tally-back today sane-today t typed known)
     ∙ as-marked today split g n t facts typed)
 
@@ -212,12 +212,12 @@ module _ (i : Image) (t : TypedImage i) (ok : imageOk today i ≡ true) where
   pub checks-read : tallyFrom checksAt (imageBytes today i) ≡ i.checks
   checks-read =
       tally-read false _ _ i.checks _ (front i) (tallyBytes i.seconds) checksAt t.0 (image-facts today i ok).checks (length-image i t)
-      (by-checks i t) (length_front i t)
+      (by-checks i t) (length-front i t)
 
   pub seconds-read : tallyFrom secondsAt (imageBytes today i) ≡ i.seconds
   seconds-read =
       tally-read _ _ _ i.seconds _ (front i ++ tallyBytes i.checks) [] secondsAt t.1 (image-facts today i ok).seconds (length-image i t)
-      (by-seconds i t) (length_before i t)
+      (by-seconds i t) (length-before i t)
 
 -- ---- a change is made to a buffer of an image's length, and to no other
 
@@ -225,6 +225,6 @@ pub in-image-other : (change : List ℕ → List ℕ) (bs : List ℕ) → (lengt
 unfolding inImage
 in-image-other change bs n = rw (ne_eqb (length bs) (imageSize today) n)
 
-pub in_image : (change : List ℕ → List ℕ) (bs : List ℕ) → length bs ≡ imageSize today → inImage change bs ≡ change bs
+pub in-image : (change : List ℕ → List ℕ) (bs : List ℕ) → length bs ≡ imageSize today → inImage change bs ≡ change bs
 unfolding inImage
-in_image change bs e = rw (eq-eqb (length bs) (imageSize today) e)
+in-image change bs e = rw (eq-eqb (length bs) (imageSize today) e)

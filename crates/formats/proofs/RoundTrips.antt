@@ -10,10 +10,10 @@ use lib.ListN.{length, get_or, take, drop, length-append, length-drop, take-appe
 use lib.Seq.{take_at, drop_at, get_or_at, split_at, append_snoc, length-take-le}
 use borrow.Author.Tests.{ne_eqb, eqb-true}
 use Rattle.formats.specs.Formats.{ReadAnswer, reading, WriteAnswer, wrote, Format, withZero, without, numbersIn, zeroByte, checked, fromNumbers}
-use Rattle.formats.specs.Formats.{readBytes, to_bytes, writeBytes}
+use Rattle.formats.specs.Formats.{readBytes, toBytes, writeBytes}
 use Rattle.formats.specs.Numbers.{Bytes, unpack, pack}
 use Rattle.formats.specs.RoundTrip.{RoundTrip}
-use Rattle.tally.specs.Refusal.{number_of}
+use Rattle.tally.specs.Refusal.{numberOf}
 use Rattle.tally.specs.declared.Refusal.TheVariants.{Length}
 use Rattle.tally.proofs.Never.{never}
 use Rattle.formats.specs.InnerNumbers.{total}
@@ -42,8 +42,8 @@ module _ (k : ℕ) (vs : List ℕ) where
       rw (take_at (take k vs) (drop (suc k) vs) k f, drop_at (take k vs) (drop (suc k) vs) k f)
       (sym (split_at vs k 0 h ∙ ap (λ (x : ℕ). take k vs ++ (x ∷ drop (suc k) vs)) z))
 
-  length_without : k < length vs → suc (length (without k vs)) ≡ length vs
-  length_without h = simp (length-append, length-drop) (omega (arith, front (omega arith)))
+  length-without : k < length vs → suc (length (without k vs)) ≡ length vs
+  length-without h = simp (length-append, length-drop) (omega (arith, front (omega arith)))
 
 -- ---- formats
 
@@ -97,7 +97,7 @@ module _ {A : Type 0} (f : Format A) (Typed : A → Type 0) (law : LawfulFormat 
       ∙ ap (fromNumbers f) (ap (without k) back ∙ without-zero k vs below)
 
   -- reading what was written gives the contents
-  pub read-written : (a : A) → Typed a → f.ok a ≡ true → readBytes f (to_bytes f a) ≡ reading 0 a
+  pub read-written : (a : A) → Typed a → f.ok a ≡ true → readBytes f (toBytes f a) ≡ reading 0 a
   read-written a t ok = read-numbers (f.numbers a) (law.each a t) (law.fit a t ok) ∙ from-numbers a t ok
 
   -- the tests that bytes have passed where they are read
@@ -110,18 +110,18 @@ module _ {A : Type 0} (f : Format A) (Typed : A → Type 0) (law : LawfulFormat 
   passed bs a e = go (eqb (length bs) f.size) (eqb (zeroByte f bs) 0) refl refl e
     where
       go : (t u : Bool) → eqb (length bs) f.size ≡ t → eqb (zeroByte f bs) 0 ≡ u
-          → cond t (cond u (fromNumbers f (numbersIn f bs)) (reading f.malformed f.nothing)) (reading (number_of Length) f.nothing) ≡ reading 0 a
+          → cond t (cond u (fromNumbers f (numbersIn f bs)) (reading f.malformed f.nothing)) (reading (numberOf Length) f.nothing) ≡ reading 0 a
           → Passed bs a
       go true true len z e = record { size = eqb-true _ _ len; zero-byte = eqb-true _ _ z; numbers = e }
       go true false len z e = absurd (law.refuses (ap (λ (r : ReadAnswer A). r.number) e))
-      go false u len z e = let one : number_of Length ≡ 0 = ap (λ (r : ReadAnswer A). r.number) e in absurd (omega arith)
+      go false u len z e = let one : numberOf Length ≡ 0 = ap (λ (r : ReadAnswer A). r.number) e in absurd (omega arith)
 
   -- the zero byte has its place among the numbers, and the other numbers are the fields
   in-widths : (bs : List ℕ) → f.zeroAt < length (unpack 0 f.widths bs)
   in-widths bs = omega (arith, law.placed, length-unpack 0 f.widths bs)
 
   length-numbers : (bs : List ℕ) → length (numbersIn f bs) ≡ f.fields
-  length-numbers bs = omega (arith, law.counted, length_without f.zeroAt (unpack 0 f.widths bs) (in-widths bs), length-unpack 0 f.widths bs)
+  length-numbers bs = omega (arith, law.counted, length-without f.zeroAt (unpack 0 f.widths bs) (in-widths bs), length-unpack 0 f.widths bs)
 
   -- what is read is well formed, and has the numbers of the bytes
   pub read-fields : (bs : List ℕ) (a : A) → readBytes f bs ≡ reading 0 a → (f.ok a ≡ true) × (f.numbers a ≡ numbersIn f bs)
@@ -132,8 +132,8 @@ module _ {A : Type 0} (f : Format A) (Typed : A → Type 0) (law : LawfulFormat 
   read-parsed bs a e = (from-parsed (numbersIn f bs) a (passed bs a e).numbers).1
 
   -- writing what was read gives the bytes
-  pub written_read : (bs : List ℕ) (a : A) → Bytes bs → readBytes f bs ≡ reading 0 a → (f.ok a ≡ true) × (to_bytes f a ≡ bs)
-  written_read bs a b e =
+  pub written-read : (bs : List ℕ) (a : A) → Bytes bs → readBytes f bs ≡ reading 0 a → (f.ok a ≡ true) × (toBytes f a ≡ bs)
+  written-read bs a b e =
       let p = passed bs a e in
       let g = read-fields bs a e in
       let vs = unpack 0 f.widths bs in
@@ -144,11 +144,11 @@ module _ {A : Type 0} (f : Format A) (Typed : A → Type 0) (law : LawfulFormat 
   refused-number bs k e = ne_eqb k 0 λ z. never (sym law.unread ∙ (read-fields bs f.nothing (rw z at e)).0)
 
   -- all of it, of the calls; `kept` is what a refused write leaves
-  pub round_trip : (kept : List ℕ → List ℕ) → RoundTrip Typed f.ok f.malformed f.size (readBytes f) (λ a bs. writeBytes f a (kept bs) bs)
-  round_trip kept =
+  pub round-trip : (kept : List ℕ → List ℕ) → RoundTrip Typed f.ok f.malformed f.size (readBytes f) (λ a bs. writeBytes f a (kept bs) bs)
+  round-trip kept =
       record {
         back = λ a bs t ok size. rw (write-contents f bs a (kept bs) size ok) (refl, read-written a t ok);
-        same = λ bs a b e out size. let g = written_read bs a b e in write-contents f out a (kept out) size g.0 ∙ ap (wrote 0) g.1;
+        same = λ bs a b e out size. let g = written-read bs a b e in write-contents f out a (kept out) size g.0 ∙ ap (wrote 0) g.1;
         refused =
             λ a bs bad size.
             (ap (λ (w : WriteAnswer). w.number) (write-malformed f bs a (kept bs) size bad), λ cs e. never (sym bad ∙ (read-fields cs a e).0));

@@ -7,11 +7,11 @@ use native.Mathlib.Omega.{arith}
 use lib.Dec.{eqb}
 use lib.ListN.{length, get_or}
 use borrow.Author.Tests.{eq-eqb, ne_eqb}
-use Rattle.tally.specs.Refusal.{number_of}
+use Rattle.tally.specs.Refusal.{numberOf}
 use Rattle.tally.specs.declared.Engine.{Engine}
 use Rattle.tally.specs.declared.Refusal.TheVariants.{Length}
 use Rattle.formats.specs.Codes.{engineOf, withEngine}
-use Rattle.formats.specs.Formats.{reading, wrote, Format, withZero, numbersIn, zeroByte, checked, fromNumbers, readBytes, to_bytes, writeBytes}
+use Rattle.formats.specs.Formats.{reading, wrote, Format, withZero, numbersIn, zeroByte, checked, fromNumbers, readBytes, toBytes, writeBytes}
 use Rattle.formats.specs.InnerNumbers.{packInto, total}
 use Rattle.formats.specs.InnerFormats.{stored}
 use Rattle.formats.specs.declared.EngineRead.{EngineRead}
@@ -19,8 +19,8 @@ use Rattle.formats.specs.declared.EngineRead.TheVariants.{Unknown}
 use Rattle.formats.proofs.Packed.{packInto-eq}
 
 module _ {A : Type 0} (f : Format A) (bs : List ℕ) where
-  pub read_length : (length bs ≡ f.size → ⊥) → readBytes f bs ≡ reading (number_of Length) f.nothing
-  read_length n = rw (ne_eqb (length bs) f.size n)
+  pub read-length : (length bs ≡ f.size → ⊥) → readBytes f bs ≡ reading (numberOf Length) f.nothing
+  read-length n = rw (ne_eqb (length bs) f.size n)
 
   pub read-numbers-in : length bs ≡ f.size → zeroByte f bs ≡ 0 → readBytes f bs ≡ fromNumbers f (numbersIn f bs)
   read-numbers-in e z = rw (eq-eqb (length bs) f.size e, eq-eqb (zeroByte f bs) 0 z)
@@ -40,28 +40,28 @@ module _ {A : Type 0} (f : Format A) (bs : List ℕ) where
   pub write-malformed : (a : A) (kept : List ℕ) → length bs ≡ f.size → f.ok a ≡ false → writeBytes f a kept bs ≡ wrote f.malformed kept
   write-malformed a kept e ok = rw (eq-eqb (length bs) f.size e, ok)
 
-  pub write-contents : (a : A) (kept : List ℕ) → length bs ≡ f.size → f.ok a ≡ true → writeBytes f a kept bs ≡ wrote 0 (to_bytes f a)
+  pub write-contents : (a : A) (kept : List ℕ) → length bs ≡ f.size → f.ok a ≡ true → writeBytes f a kept bs ≡ wrote 0 (toBytes f a)
   write-contents a kept e ok = rw (eq-eqb (length bs) f.size e, ok)
 
   -- a refused write leaves what is to be kept
-  pub write_kept : (a : A) (kept : List ℕ) → ((writeBytes f a kept bs).number ≡ 0 → ⊥) → (writeBytes f a kept bs).out ≡ kept
-  write_kept a kept = go (eqb (length bs) f.size) (f.ok a)
+  pub write-kept : (a : A) (kept : List ℕ) → ((writeBytes f a kept bs).number ≡ 0 → ⊥) → (writeBytes f a kept bs).out ≡ kept
+  write-kept a kept = go (eqb (length bs) f.size) (f.ok a)
     where
-      go : (s t : Bool) → ((cond s (cond t (wrote 0 (to_bytes f a)) (wrote f.malformed kept)) (wrote (number_of Length) kept)).number ≡ 0 → ⊥)
-          → (cond s (cond t (wrote 0 (to_bytes f a)) (wrote f.malformed kept)) (wrote (number_of Length) kept)).out ≡ kept
+      go : (s t : Bool) → ((cond s (cond t (wrote 0 (toBytes f a)) (wrote f.malformed kept)) (wrote (numberOf Length) kept)).number ≡ 0 → ⊥)
+          → (cond s (cond t (wrote 0 (toBytes f a)) (wrote f.malformed kept)) (wrote (numberOf Length) kept)).out ≡ kept
       go true true n = absurd (n refl)
       go true false n = refl
       go false t n = refl
 
   -- the numbers of contents stored in a buffer of the right length are their bytes
   pub packed : (a : A) → length (withZero f.zeroAt (f.numbers a)) ≡ length f.widths → total f.widths ≡ f.size → length bs ≡ f.size
-      → packInto bs 0 f.widths (withZero f.zeroAt (f.numbers a)) ≡ to_bytes f a
+      → packInto bs 0 f.widths (withZero f.zeroAt (f.numbers a)) ≡ toBytes f a
   packed a each sized e = packInto-eq f.widths (withZero f.zeroAt (f.numbers a)) bs 0 each (omega arith)
 
-  pub stored_other : (a : A) → (length bs ≡ f.size → ⊥) → stored f a bs ≡ bs
+  pub stored-other : (a : A) → (length bs ≡ f.size → ⊥) → stored f a bs ≡ bs
   unfolding stored
-  stored_other a n = rw (ne_eqb (length bs) f.size n)
+  stored-other a n = rw (ne_eqb (length bs) f.size n)
 
-  pub stored-contents : (a : A) → length bs ≡ f.size → stored f a bs ≡ to_bytes f a
+  pub stored-contents : (a : A) → length bs ≡ f.size → stored f a bs ≡ toBytes f a
   unfolding stored
   stored-contents a e = rw (eq-eqb (length bs) f.size e)

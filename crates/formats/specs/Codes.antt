@@ -32,18 +32,18 @@ kindLetter Check = 67
 kindLetter Second = 83
 kindLetter Skip = 75
 
-abbrev pub kind_of : ℕ → KindRead
-kind_of x =
+abbrev pub kindOf : ℕ → KindRead
+kindOf x =
     cond (eqb x (kindLetter First)) (KindRead.Is First)
     (cond (eqb x (kindLetter Check)) (KindRead.Is Check)
     (cond (eqb x (kindLetter Second)) (KindRead.Is Second)
     (cond (eqb x (kindLetter Skip)) (KindRead.Is Skip) KindRead.Unknown)))
 
 -- blank and split as they are stored; a mileage is its own number
-abbrev pub code_of : Estimate → ℕ
-code_of Blank = blankCode
-code_of Split = splitCode
-code_of (Mileage m) = m
+abbrev pub codeOf : Estimate → ℕ
+codeOf Blank = blankCode
+codeOf Split = splitCode
+codeOf (Mileage m) = m
 
 -- the estimate that a number stands for; one out of range is a mileage that is not well formed
 abbrev pub estimateOf : ℕ → Estimate

@@ -1,7 +1,7 @@
 -- Reading and writing contents as a list of numbers, one of which is a zero byte. Assumes nothing.
 use Rattle.std.specs.Prelude.{ℕ, suc, Bool, cond, List, ◌∷◌, ◌++◌, eqb, length, get_or, take, drop}
 use Rattle.std.proofs.Math.Option.{Option, none, some}
-use Rattle.tally.specs.Refusal.{number_of}
+use Rattle.tally.specs.Refusal.{numberOf}
 use Rattle.tally.specs.declared.Refusal.TheVariants.{Length}
 use Rattle.formats.specs.Numbers.{unpack, pack}
 
@@ -67,13 +67,13 @@ abbrev pub readBytes : {A : Type 0} → Format A → List ℕ → ReadAnswer A
 readBytes f bs =
     cond (eqb (length bs) f.size)
     (cond (eqb (zeroByte f bs) 0) (fromNumbers f (numbersIn f bs)) (reading f.malformed f.nothing))
-    (reading (number_of Length) f.nothing)
+    (reading (numberOf Length) f.nothing)
 
 -- the bytes of contents
-abbrev pub to_bytes : {A : Type 0} → Format A → A → List ℕ
-to_bytes f a = pack f.widths (withZero f.zeroAt (f.numbers a))
+abbrev pub toBytes : {A : Type 0} → Format A → A → List ℕ
+toBytes f a = pack f.widths (withZero f.zeroAt (f.numbers a))
 
 -- writing a to a buffer that holds bs: refused as reading would, and then `left` stands there
 abbrev pub writeBytes : {A : Type 0} → Format A → A → List ℕ → List ℕ → WriteAnswer
 writeBytes f a left bs =
-    cond (eqb (length bs) f.size) (cond (f.ok a) (wrote 0 (to_bytes f a)) (wrote f.malformed left)) (wrote (number_of Length) left)
+    cond (eqb (length bs) f.size) (cond (f.ok a) (wrote 0 (toBytes f a)) (wrote f.malformed left)) (wrote (numberOf Length) left)

@@ -2,7 +2,7 @@
 use Rattle.std.specs.Prelude.{ℕ, ◌+◌, List, ◌∷◌, ◌++◌, map, length, get_or, take, drop, replicate}
 use Rattle.std.proofs.Math.Option.{Option}
 use Rattle.tally.specs.Limits.{Limits, imageSize, logFields, senders}
-use Rattle.tally.specs.Refusal.{number_of}
+use Rattle.tally.specs.Refusal.{numberOf}
 use Rattle.tally.specs.Tally.{Typed, noMarks}
 use Rattle.tally.specs.declared.Cell.{Cell}
 use Rattle.tally.specs.declared.Engine.{Engine}
@@ -11,19 +11,19 @@ use Rattle.tally.specs.declared.Tally.{Tally}
 use Rattle.contents.specs.Images.{imageLog, imageOk}
 use Rattle.contents.specs.declared.Image.{Image}
 use Rattle.contents.specs.declared.Log.{Log}
-use Rattle.formats.specs.Codes.{engineOf, withEngine, code_of, estimateOf}
-use Rattle.formats.specs.Formats.{ReadAnswer, WriteAnswer, Format, readBytes, to_bytes, writeBytes}
+use Rattle.formats.specs.Codes.{engineOf, withEngine, codeOf, estimateOf}
+use Rattle.formats.specs.Formats.{ReadAnswer, WriteAnswer, Format, readBytes, toBytes, writeBytes}
 use Rattle.formats.specs.Logs.{logWidths, logZero, logNumbers, logOf, noLog}
 
 -- what the code's types say of an image
 abbrev pub TypedImage : Image → Type 0
 TypedImage i = Typed i.checks × Typed i.seconds
 
-abbrev pub cell_of : ℕ → Cell
-cell_of x = record { estimate = estimateOf x }
+abbrev pub cellOf : ℕ → Cell
+cellOf x = record { estimate = estimateOf x }
 
 abbrev pub cellCode : Cell → ℕ
-cellCode c = code_of c.estimate
+cellCode c = codeOf c.estimate
 
 -- sixteen estimates (4 each)
 abbrev pub cellWidths : List ℕ
@@ -36,8 +36,8 @@ tallyWidths = 2 ∷ cellWidths
 abbrev pub tallyNumbers : Tally → List ℕ
 tallyNumbers t = t.marks ∷ map cellCode t.cells
 
-abbrev pub tally_of : List ℕ → Tally
-tally_of vs = record { marks = get_or vs 0 0; cells = map cell_of (drop 1 vs) }
+abbrev pub tallyOf : List ℕ → Tally
+tallyOf vs = record { marks = get_or vs 0 0; cells = map cellOf (drop 1 vs) }
 
 -- a log's bytes; CHECK marks and estimates; SECOND marks and estimates
 abbrev pub imageWidths : Limits → List ℕ
@@ -53,12 +53,12 @@ tallyFields = length tallyWidths
 abbrev pub withTallies : Log → Tally → Tally → Image
 withTallies r c s = record { settings = r.settings; state = r.state; checks = c; seconds = s }
 
-abbrev pub image_of : Engine → List ℕ → Image
-image_of e vs =
-    withTallies (logOf e (take logFields vs)) (tally_of (take tallyFields (drop logFields vs))) (tally_of (drop tallyFields (drop logFields vs)))
+abbrev pub imageOf : Engine → List ℕ → Image
+imageOf e vs =
+    withTallies (logOf e (take logFields vs)) (tallyOf (take tallyFields (drop logFields vs))) (tallyOf (drop tallyFields (drop logFields vs)))
 
 abbrev pub parseImage : List ℕ → Option Image
-parseImage vs = withEngine image_of (engineOf (get_or vs 0 0)) vs
+parseImage vs = withEngine imageOf (engineOf (get_or vs 0 0)) vs
 
 -- stands in the place of an image that is refused
 abbrev pub noImage : Image
@@ -75,7 +75,7 @@ imageFormat l =
       numbers = imageNumbers;
       parse = parseImage;
       ok = imageOk l;
-      malformed = number_of Refusal.Image;
+      malformed = numberOf Refusal.Image;
       nothing = noImage;
     }
 
@@ -83,7 +83,7 @@ unfoldable pub readImage : Limits → List ℕ → ReadAnswer Image
 readImage l bs = readBytes (imageFormat l) bs
 
 unfoldable pub imageBytes : Limits → Image → List ℕ
-imageBytes l i = to_bytes (imageFormat l) i
+imageBytes l i = toBytes (imageFormat l) i
 
 -- a refused image write leaves every byte
 unfoldable pub writeImage : Limits → Image → List ℕ → WriteAnswer

@@ -10,9 +10,9 @@ use Rattle.contents.specs.declared.Log.{Log}
 use Rattle.contents.specs.declared.State.{State}
 use Rattle.formats.specs.Formats.{ReadAnswer}
 use Rattle.formats.specs.InnerLogs.{settingsWidths, stateWidths, stateNumbers, roundAt}
-use Rattle.formats.specs.Numbers.{num_at, unpack}
+use Rattle.formats.specs.Numbers.{numAt, unpack}
 use Rattle.formats.specs.InnerNumbers.{packInto, total}
-use Rattle.formats.specs.Images.{tallyWidths, tallyNumbers, tally_of}
+use Rattle.formats.specs.Images.{tallyWidths, tallyNumbers, tallyOf}
 use Rattle.formats.specs.declared.StateRead.{StateRead}
 
 -- where the tallies stand, and the tally at a place
@@ -23,7 +23,7 @@ abbrev pub secondsAt : ℕ
 secondsAt = logSize today + total tallyWidths
 
 abbrev pub tallyAt : ℕ → List ℕ → Tally
-tallyAt o bs = tally_of (unpack o tallyWidths bs)
+tallyAt o bs = tallyOf (unpack o tallyWidths bs)
 
 -- the state of an image that was read and fits the log
 unfoldable pub fitState : ReadAnswer Image → Log → StateRead
@@ -48,7 +48,7 @@ stateOver s bs = packInto bs (total settingsWidths) (stateWidths today) (stateNu
 
 -- a tally written at the place o, unless the round is the same and the bytes have its marks already
 abbrev pub tallyOver : ℕ → Bool → Tally → List ℕ → List ℕ
-tallyOver o same t bs = cond (same && eqb t.marks (num_at bs o 2)) bs (packInto bs o tallyWidths (tallyNumbers (asMarked t)))
+tallyOver o same t bs = cond (same && eqb t.marks (numAt bs o 2)) bs (packInto bs o tallyWidths (tallyNumbers (asMarked t)))
 
 -- a state and tallies written over those of an older image
 abbrev pub imageOver : State → Tally → Tally → List ℕ → List ℕ

@@ -2,17 +2,17 @@
 use Rattle.std.specs.Prelude.{ℕ, cond, List, [], ◌∷◌, eqb}
 use Rattle.tally.specs.Limits.{Limits, today}
 use Rattle.contents.specs.declared.State.{State}
-use Rattle.formats.specs.Codes.{engineOf, code_of}
+use Rattle.formats.specs.Codes.{engineOf, codeOf}
 use Rattle.formats.specs.Formats.{numbersIn}
 use Rattle.formats.specs.declared.EngineRead.{EngineRead}
 use Rattle.formats.specs.declared.EngineRead.TheVariants.{Unknown}
-use Rattle.formats.specs.Numbers.{num_at}
+use Rattle.formats.specs.Numbers.{numAt}
 use Rattle.formats.specs.Logs.{logZero, logFormat}
 use Rattle.formats.specs.InnerNumbers.{total}
 
 -- the engine of a log or an image, unknown also where the zero byte is not 0
 abbrev pub engineAt : List ℕ → EngineRead
-engineAt bs = cond (eqb (num_at bs logZero 1) 0) (engineOf (num_at bs 0 1)) EngineRead.Unknown
+engineAt bs = cond (eqb (numAt bs logZero 1) 0) (engineOf (numAt bs 0 1)) EngineRead.Unknown
 
 -- a log's settings with the zero, and its state
 abbrev pub settingsWidths : List ℕ
@@ -22,11 +22,11 @@ abbrev pub stateWidths : Limits → List ℕ
 stateWidths l = l.roundWidth ∷ 4 ∷ 4 ∷ 4 ∷ []
 
 abbrev pub stateNumbers : State → List ℕ
-stateNumbers s = s.round ∷ code_of s.proposal ∷ code_of s.first ∷ code_of s.second ∷ []
+stateNumbers s = s.round ∷ codeOf s.proposal ∷ codeOf s.first ∷ codeOf s.second ∷ []
 
 -- the round that a log's or an image's bytes hold
 abbrev pub roundAt : List ℕ → ℕ
-roundAt bs = num_at bs (total settingsWidths) today.roundWidth
+roundAt bs = numAt bs (total settingsWidths) today.roundWidth
 
 -- the numbers that bytes hold, the zero byte left out
 abbrev pub logNumbersIn : Limits → List ℕ → List ℕ

@@ -1,7 +1,7 @@
 -- What inner functions promise, of which no public call's contract speaks. Assumes nothing.
 use Rattle.std.specs.Prelude.{ℕ, ◌+◌, List, [], ◌∷◌}
 use Rattle.std.proofs.lemmas.List.Edits.{sets}
-use Rattle.formats.specs.Numbers.{bytes_of}
+use Rattle.formats.specs.Numbers.{bytesOf}
 
 -- how many bytes numbers take, from their widths
 abbrev pub total : List ℕ → ℕ
@@ -12,4 +12,4 @@ total (w ∷ ws) = w + total ws
 abbrev pub packInto : List ℕ → ℕ → List ℕ → List ℕ → List ℕ
 packInto bs o [] vs = bs
 packInto bs o (w ∷ ws) [] = bs
-packInto bs o (w ∷ ws) (v ∷ vs) = packInto (sets bs o (bytes_of w v)) (o + w) ws vs
+packInto bs o (w ∷ ws) (v ∷ vs) = packInto (sets bs o (bytesOf w v)) (o + w) ws vs

@@ -2,14 +2,14 @@
 use Rattle.std.specs.Prelude.{ℕ, List, [], ◌∷◌, get_or}
 use Rattle.std.proofs.Math.Option.{Option}
 use Rattle.tally.specs.Limits.{Limits, logSize, logFields}
-use Rattle.tally.specs.Refusal.{number_of}
+use Rattle.tally.specs.Refusal.{numberOf}
 use Rattle.tally.specs.declared.Engine.{Engine}
 use Rattle.tally.specs.declared.Engine.TheVariants.{B}
 use Rattle.tally.specs.declared.Estimate.TheVariants.{Blank}
 use Rattle.tally.specs.declared.Refusal.{Refusal}
 use Rattle.contents.specs.Logs.{logOk}
 use Rattle.contents.specs.declared.Log.{Log}
-use Rattle.formats.specs.Codes.{letterOf, engineOf, withEngine, code_of, estimateOf}
+use Rattle.formats.specs.Codes.{letterOf, engineOf, withEngine, codeOf, estimateOf}
 use Rattle.formats.specs.Formats.{ReadAnswer, reading, WriteAnswer, Format, readBytes, writeBytes}
 use Rattle.formats.specs.declared.LogRead.{LogRead}
 use Rattle.formats.specs.declared.LogRead.TheVariants.{Read, Refused}
@@ -25,7 +25,7 @@ logZero = 3
 abbrev pub logNumbers : Log → List ℕ
 logNumbers r =
     letterOf r.settings.engine ∷ r.settings.n ∷ r.settings.unit ∷ r.settings.entry ∷
-    r.state.round ∷ code_of r.state.proposal ∷ code_of r.state.first ∷ code_of r.state.second ∷ []
+    r.state.round ∷ codeOf r.state.proposal ∷ codeOf r.state.first ∷ codeOf r.state.second ∷ []
 
 abbrev pub logOf : Engine → List ℕ → Log
 logOf e vs =
@@ -45,7 +45,7 @@ parseLog vs = withEngine logOf (engineOf (get_or vs 0 0)) vs
 
 -- stands in the place of a log that is refused
 abbrev pub noLog : Log
-noLog = logOf B (0 ∷ 0 ∷ 0 ∷ 0 ∷ 0 ∷ code_of Blank ∷ code_of Blank ∷ code_of Blank ∷ [])
+noLog = logOf B (0 ∷ 0 ∷ 0 ∷ 0 ∷ 0 ∷ codeOf Blank ∷ codeOf Blank ∷ codeOf Blank ∷ [])
 
 -- 2: log malformed
 abbrev pub logFormat : Limits → Format Log
@@ -58,17 +58,17 @@ logFormat l =
       numbers = logNumbers;
       parse = parseLog;
       ok = logOk l;
-      malformed = number_of Refusal.Log;
+      malformed = numberOf Refusal.Log;
       nothing = noLog;
     }
 
 -- the code's answer, as number and contents
 abbrev pub logReading : LogRead → ReadAnswer Log
 logReading (Read r) = reading 0 r
-logReading (Refused k) = reading (number_of k) noLog
+logReading (Refused k) = reading (numberOf k) noLog
 
-unfoldable pub read_log : Limits → List ℕ → ReadAnswer Log
-read_log l bs = readBytes (logFormat l) bs
+unfoldable pub readLog : Limits → List ℕ → ReadAnswer Log
+readLog l bs = readBytes (logFormat l) bs
 
 -- a refused log write leaves every byte
 unfoldable pub writeLog : Limits → Log → List ℕ → WriteAnswer

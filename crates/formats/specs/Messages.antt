@@ -2,13 +2,13 @@
 use Rattle.std.specs.Prelude.{ℕ, cond, List, [], ◌∷◌, eqb, length, get_or, replicate}
 use Rattle.std.proofs.Math.Option.{Option, none, some}
 use Rattle.tally.specs.Limits.{Limits, messageSize, messageFields}
-use Rattle.tally.specs.Refusal.{number_of}
+use Rattle.tally.specs.Refusal.{numberOf}
 use Rattle.tally.specs.declared.Engine.{Engine}
 use Rattle.tally.specs.declared.Refusal.{Refusal}
 use Rattle.contents.specs.Messages.{messageOk, emptyMessage}
 use Rattle.contents.specs.declared.Kind.{Kind}
 use Rattle.contents.specs.declared.Message.{Message}
-use Rattle.formats.specs.Codes.{letterOf, engineOf, kindLetter, kind_of, code_of, estimateOf}
+use Rattle.formats.specs.Codes.{letterOf, engineOf, kindLetter, kindOf, codeOf, estimateOf}
 use Rattle.formats.specs.Formats.{ReadAnswer, reading, WriteAnswer, Format, readBytes, writeBytes}
 use Rattle.formats.specs.declared.EngineRead.{EngineRead}
 use Rattle.formats.specs.declared.EngineRead.TheVariants.{Is, Unknown}
@@ -28,7 +28,7 @@ messageZero = 5
 abbrev pub messageNumbers : Message → List ℕ
 messageNumbers m =
     kindLetter m.kind ∷ letterOf m.engine ∷ m.n ∷ m.sender ∷ m.receiver ∷ m.entry ∷
-    m.round ∷ code_of m.estimate ∷ code_of m.proposal ∷ []
+    m.round ∷ codeOf m.estimate ∷ codeOf m.proposal ∷ []
 
 abbrev pub messageOf : Kind → Engine → List ℕ → Message
 messageOf k e vs =
@@ -50,7 +50,7 @@ lettersRead (KindIs k) Unknown vs = none
 lettersRead KindUnknown e vs = none
 
 abbrev pub parseMessage : List ℕ → Option Message
-parseMessage vs = lettersRead (kind_of (get_or vs 0 0)) (engineOf (get_or vs 1 0)) vs
+parseMessage vs = lettersRead (kindOf (get_or vs 0 0)) (engineOf (get_or vs 1 0)) vs
 
 -- 4: message malformed
 abbrev pub messageFormat : Limits → Format Message
@@ -63,14 +63,14 @@ messageFormat l =
       numbers = messageNumbers;
       parse = parseMessage;
       ok = messageOk l;
-      malformed = number_of Refusal.Message;
+      malformed = numberOf Refusal.Message;
       nothing = emptyMessage;
     }
 
 -- the code's answer, as number and contents
 abbrev pub messageReading : MessageRead → ReadAnswer Message
 messageReading (Read m) = reading 0 m
-messageReading (Refused k) = reading (number_of k) emptyMessage
+messageReading (Refused k) = reading (numberOf k) emptyMessage
 
 unfoldable pub readMessage : Limits → List ℕ → ReadAnswer Message
 readMessage l bs = readBytes (messageFormat l) bs

@@ -1,5 +1,7 @@
 // What reading a letter, a log, a message or an image finds. How they are laid out is in specs/; crates codes, log_codec, message_codec and
 // image_codec read and write them.
+#![tactic(auto)]
+
 use contents::{Kind, Log, Message, State};
 use tally::{Engine, Refusal};
 

@@ -1,14 +1,16 @@
 // The 152 bytes of an image: those of a log, then two tallies.
+#![tactic(auto)]
+
 ghost use Rattle.std.specs.Prelude.{◌≡◌, cond, ◌&&◌, map, ◌+◌, ◌*◌, ◌≤◌, length, replicate};
 ghost use Rattle.tally.specs.Limits.{today, imageSize, senders, blankCode};
 ghost use Rattle.tally.specs.Tally.{noMarks};
 ghost use Rattle.tally.specs.declared.Estimate.TheVariants.{Blank};
 ghost use Rattle.contents.specs.Estimates.{isBlank};
 ghost use Rattle.contents.specs.Images.{every, cellOk, cellsOk, tallyOk, imageOk, fits};
-ghost use Rattle.formats.specs.Codes.{code_of, estimateOf};
-ghost use Rattle.formats.specs.Numbers.{num_at, unpack};
+ghost use Rattle.formats.specs.Codes.{codeOf, estimateOf};
+ghost use Rattle.formats.specs.Numbers.{numAt, unpack};
 ghost use Rattle.formats.specs.InnerNumbers.{packInto, total};
-ghost use Rattle.formats.specs.Images.{cell_of, cellCode, cellWidths, tallyWidths, tallyNumbers, withTallies, imageFormat, readImage};
+ghost use Rattle.formats.specs.Images.{cellOf, cellCode, cellWidths, tallyWidths, tallyNumbers, withTallies, imageFormat, readImage};
 ghost use Rattle.formats.specs.InnerImages.{tallyAt, checksAt, secondsAt, fitState, heldFrom, asMarked, tallyFrom, stateOver, tallyOver, imageOver, inImage};
 ghost use Rattle.formats.specs.InnerFormats.{stored};
 
@@ -60,7 +62,7 @@ pub fn store_unmarked(log: Log, out: &mut [u8])
 // ---- the test, in place: only marked cells are decoded
 fn is_blank_at(s: &[u8], at: usize) -> bool
     requires { at + 4 ≤ length s.now }
-    ensures { result ≡ isBlank (estimateOf (num_at s.now at 4)) }
+    ensures { result ≡ isBlank (estimateOf (numAt s.now at 4)) }
 {
     big_endian::be32(s, at) == limits::BLANK
 }
@@ -68,7 +70,7 @@ fn is_blank_at(s: &[u8], at: usize) -> bool
 // Are all sixteen cells blank?
 fn blanks_at(s: &[u8], at: usize) -> bool
     requires { at + total cellWidths ≤ length s.now }
-    ensures { result ≡ every senders (λ u. isBlank (estimateOf (num_at s.now (at + 4 * u) 4))) }
+    ensures { result ≡ every senders (λ u. isBlank (estimateOf (numAt s.now (at + 4 * u) 4))) }
 {
     let mut from = at;
     let mut ok = true;
@@ -81,7 +83,7 @@ fn blanks_at(s: &[u8], at: usize) -> bool
 
 fn cell_ok_at(s: &[u8], at: usize, split: bool, n: u8, sender: u8, marked: bool) -> bool
     requires { at + 4 ≤ length s.now }
-    ensures { result ≡ cellOk today split n sender marked (estimateOf (num_at s.now at 4)) }
+    ensures { result ≡ cellOk today split n sender marked (estimateOf (numAt s.now at 4)) }
 {
     if marked {
         let e = codes::estimate_of(big_endian::be32(s, at));
@@ -168,7 +170,7 @@ pub fn state_for(s: &[u8], log: Log) -> StateRead
 // ---- the tallies, read and written: an unmarked cell is blank, whatever stands there
 fn held_at(s: &[u8], at: usize, marked: bool) -> Estimate
     requires { at + 4 ≤ length s.now }
-    ensures { result ≡ cond marked (estimateOf (num_at s.now at 4)) Blank }
+    ensures { result ≡ cond marked (estimateOf (numAt s.now at 4)) Blank }
 {
     if marked {
         codes::estimate_of(big_endian::be32(s, at))
@@ -179,7 +181,7 @@ fn held_at(s: &[u8], at: usize, marked: bool) -> Estimate
 
 fn cells_at(s: &[u8], at: usize, marks: u16) -> [Cell; limits::SENDERS]
     requires { at + total cellWidths ≤ length s.now }
-    ensures { result ≡ heldFrom (record { marks = marks; cells = map cell_of (unpack at cellWidths s.now) }) 0 senders }
+    ensures { result ≡ heldFrom (record { marks = marks; cells = map cellOf (unpack at cellWidths s.now) }) 0 senders }
 {
     let mut cells = tally::NO_CELLS;
     let mut from = at;
@@ -225,7 +227,7 @@ pub fn seconds_of(s: &[u8]) -> Tally
 }
 
 fn held_code(marked: bool, e: Estimate) -> u32
-    ensures { result ≡ code_of (cond marked e Blank) }
+    ensures { result ≡ codeOf (cond marked e Blank) }
 {
     if marked {
         codes::code_of(e)

@@ -1,13 +1,15 @@
 // The 20 bytes of a log. A wrong length is refused first, then malformed contents.
+#![tactic(auto)]
+
 ghost use Rattle.std.specs.Prelude.{◌≡◌, [], ◌∷◌, ◌+◌, ◌≤◌, length};
 ghost use Rattle.std.proofs.Math.Option.{some};
 ghost use Rattle.tally.specs.Limits.{today, logSize};
-ghost use Rattle.tally.specs.Refusal.{number_of};
+ghost use Rattle.tally.specs.Refusal.{numberOf};
 ghost use Rattle.formats.specs.InnerNumbers.{packInto, total};
-ghost use Rattle.formats.specs.Codes.{code_of};
+ghost use Rattle.formats.specs.Codes.{codeOf};
 ghost use Rattle.formats.specs.Formats.{withZero, wrote, checked};
 ghost use Rattle.formats.specs.InnerLogs.{settingsWidths, stateWidths, stateNumbers, roundAt, logNumbersIn, engineAt};
-ghost use Rattle.formats.specs.Logs.{logWidths, logZero, logOf, logNumbers, logFormat, logReading, read_log, writeLog};
+ghost use Rattle.formats.specs.Logs.{logWidths, logZero, logOf, logNumbers, logFormat, logReading, readLog, writeLog};
 ghost use Rattle.formats.specs.InnerFormats.{stored};
 
 use contents::{Log, Settings, State};
@@ -76,7 +78,7 @@ fn checked_log(log: Log) -> LogRead
 
 // Refuses a wrong length with 1, and malformed contents with 2.
 pub fn read_log(s: &[u8]) -> LogRead
-    ensures { logReading result ≡ read_log today s.now }
+    ensures { logReading result ≡ readLog today s.now }
 {
     if s.len() != limits::LOG_SIZE {
         return LogRead::Refused(Refusal::Length);
@@ -90,7 +92,7 @@ pub fn read_log(s: &[u8]) -> LogRead
 // Three estimates, one after the other; the places add up as the widths do.
 fn put_three(out: &mut [u8], at: usize, a: Estimate, b: Estimate, c: Estimate)
     requires { at + 12 ≤ length out.old }
-    ensures { out.new ≡ packInto out.old at (4 ∷ 4 ∷ 4 ∷ []) (code_of a ∷ code_of b ∷ code_of c ∷ []) }
+    ensures { out.new ≡ packInto out.old at (4 ∷ 4 ∷ 4 ∷ []) (codeOf a ∷ codeOf b ∷ codeOf c ∷ []) }
 {
     big_endian::put32(out, at, codes::code_of(a));
     big_endian::put32(out, at + 4, codes::code_of(b));
@@ -150,7 +152,7 @@ pub fn store_log(log: Log, out: &mut [u8])
 
 // Refuses as reading would, and then leaves every byte.
 pub fn write_log(log: Log, out: &mut [u8]) -> Refusal
-    ensures { wrote (number_of result) out.new ≡ writeLog today log out.old }
+    ensures { wrote (numberOf result) out.new ≡ writeLog today log out.old }
 {
     if out.len() != limits::LOG_SIZE {
         return Refusal::Length;

@@ -1,8 +1,10 @@
 // The 18 bytes of a message. A wrong length is refused first, then malformed contents.
+#![tactic(auto)]
+
 ghost use Rattle.std.specs.Prelude.{◌≡◌, length};
 ghost use Rattle.std.proofs.Math.Option.{some};
 ghost use Rattle.tally.specs.Limits.{today, messageSize};
-ghost use Rattle.tally.specs.Refusal.{number_of};
+ghost use Rattle.tally.specs.Refusal.{numberOf};
 ghost use Rattle.formats.specs.InnerNumbers.{packInto};
 ghost use Rattle.formats.specs.Formats.{withZero, wrote, checked};
 ghost use Rattle.formats.specs.Messages.{messageWidths, messageZero, messageOf, messageNumbers, messageFormat, messageReading, lettersRead, cleared};
@@ -134,7 +136,7 @@ pub fn store_message(m: Message, out: &mut [u8])
 
 // Refuses as reading would, and then leaves an empty message in a buffer of its length; another keeps its bytes.
 pub fn write_message(m: Message, out: &mut [u8]) -> Refusal
-    ensures { wrote (number_of result) out.new ≡ writeMessage today m out.old }
+    ensures { wrote (numberOf result) out.new ≡ writeMessage today m out.old }
 {
     clear(out);
     if out.len() != limits::MESSAGE_SIZE {

@@ -32,7 +32,7 @@ use denote.Triple.Clauses.{Clauses}
 use denote.Triple.Entry.{Args, Vals, on_entry}
 use denote.Triple.Walked.{says, Stays, gave_slice, walk_of, Goes-gave_slice, ends_at}
 use Rattle.tally.specs.Limits.{today, blankCode}
-use Rattle.tally.specs.Refusal.{number_of}
+use Rattle.tally.specs.Refusal.{numberOf}
 use Rattle.cards.specs.InnerSteps.{cardTold, cardRows, cardCall}
 use Rattle.cards.specs.declared.Act.{Act}
 use Rattle.cards.specs.declared.CardCall.{CardCall}
@@ -44,11 +44,11 @@ use Rattle.cards.specs.contracts.CardRow as R
 use Rattle.cards.specs.contracts.Told as T
 use Rattle.cards.proofs.Told.TheLaws as T'
 use Rattle.card_calls.proofs.Calling.{Known, arg, kept, gone, gives, gives32, asks-plain, knows, met-by-walk}
-use Rattle.card_calls.specs.contracts.on_row as on
+use Rattle.card_calls.specs.contracts.on-row as on
 use Rattle.card_calls.proofs.on_row.Symbol as on-def
 use Rattle.card_calls.proofs.on_row.Symbol.{name as #on-row}
 use Rattle.card_calls.specs.contracts.buffers.start_call as ask
-use Rattle.card_calls.specs.contracts.buffers.number_of as num
+use Rattle.card_calls.specs.contracts.buffers.numberOf as num
 use Rattle.card_calls.proofs.buffers.number_of.Symbol as num-def
 use Rattle.card_calls.proofs.buffers.number_of.Symbol.{name as #num}
 use Rattle.card_calls.proofs.buffers.number_of.Met as num-thm
@@ -64,8 +64,8 @@ one [] = ty_unit
 one (τ ∷ τs) = τ
 
 -- the MIR of both, by the name of the function that is asked
-abbrev code_of : Name → Fn
-code_of asked =
+abbrev codeOf : Name → Fn
+codeOf asked =
     let number : Local = local (ty_int w32) value_local in
     let ref : Lifetime → Ty = λ ℓ. ty_ref ℓ mut (pointee (R.the_row).written) in
     record {
@@ -102,10 +102,10 @@ module _ (act : Act) (answer : (g n u : ℕ) → List CardRow → ℕ → CardAn
 
   abbrev Asked : Type 0
   Asked = (g n u k : ℕ) (ys : List CardRow)
-      → cardCalled (number_of (cardTold today (cardCall g n u k act) ys).refusal) (cardRows today (cardCall g n u k act) ys) [] blankCode ≡ answer g n u ys k
+      → cardCalled (numberOf (cardTold today (cardCall g n u k act) ys).refusal) (cardRows today (cardCall g n u k act) ys) [] blankCode ≡ answer g n u ys k
 
   finish : Asked → (g n u k : ℕ) (ys : List CardRow) (c : CardCall) (t : Told) (zr : List CardRow) (r : ℕ) → c ≡ cardCall g n u k act
-      → (t ≡ cardTold today c ys) × (zr ≡ cardRows today c ys) → r ≡ number_of t.refusal → cardCalled r zr [] blankCode ≡ answer g n u ys k
+      → (t ≡ cardTold today c ys) × (zr ≡ cardRows today c ys) → r ≡ numberOf t.refusal → cardCalled r zr [] blankCode ≡ answer g n u ys k
   finish asked g n u k ys c t zr r ec e e₂ = rw (e₂, e.1, e.0, ec) (asked g n u k ys)
 
   module _ {M : Type 1} {𝓤 : Ura M} (𝓛 : Logic 𝓤) (mem : Memory → SProp 𝓤) (run : Routine → Fun 𝓤) (κ₀ : Lft) (q₀ : Share)
@@ -137,11 +137,11 @@ module _ (act : Act) (answer : (g n u : ℕ) → List CardRow → ℕ → CardAn
         (known-ask : Known 𝓛 C asked-name ask.ended (Asks 𝓤))
         (known_on : Known 𝓛 C #on-row on.ended (on.clauses 𝓛 mem run)) (known-num : Known 𝓛 C #num num.ended (num.clauses 𝓛 mem run)) where
       walk : g < 2 ^ 32 → n < 2 ^ 32 → u < 2 ^ 32 → k < 2 ^ 32 → Room R.the_row (length xr.now)
-          → ent 𝓤 (on_entry 𝓛 f.signature (κ₀, tt) (q₀, tt) a vals) (WpFn 𝓤 H C Λ (code_of asked-name)
+          → ent 𝓤 (on_entry 𝓛 f.signature (κ₀, tt) (q₀, tt) a vals) (WpFn 𝓤 H C Λ (codeOf asked-name)
           (vint w32 g ∷ vint w32 n ∷ vint w32 u ∷ sr ∷ vint w32 k ∷ []) Post)
       walk fg fn fu fk room =
           qed 𝓛 ((‵ (flft κ₀ q₀) ⊛ ‵ ftrue) ∷ ‵ (owns (u32 ∷ u32 ∷ u32 ∷ MutSlice (named 0) κ₀ R.the_row ∷ u32 ∷ []) a vals) ∷ []) ∵
-          enter ! C Λ (code_of asked-name) (vint w32 g ∷ vint w32 n ∷ vint w32 u ∷ sr ∷ vint w32 k ∷ []) _ $
+          enter ! C Λ (codeOf asked-name) (vint w32 g ∷ vint w32 n ∷ vint w32 u ∷ sr ∷ vint w32 k ∷ []) _ $
           alloc1 ! (λ l₀. alloc1 ! (λ l₁. alloc1 ! (λ l₂. alloc1 ! (λ l₃. alloc1 ! (λ l₄. alloc1 ! (λ l₅. alloc1 ! (λ l₆. alloc1 ! (λ l₇. alloc1 ! (λ l₈.
           alloc1 ! (λ l₉. alloc0 ! $ params1 ! $ pass1 ! (init ! 16 refl (tt, record { fits = fg })) $ pass1 ! (init ! 14 refl (tt, record { fits = fn })) $
           pass1 ! (init ! 12 refl (tt, record { fits = fu })) $ pass1 ! (init ! 10 refl (tt, (tt, (record { fits = room.0 }, tt)))) $
@@ -161,18 +161,18 @@ module _ (act : Act) (answer : (g n u : ℕ) → List CardRow → ℕ → CardAn
           kept ! 6 refl ((LL.lawful T.the_type T'.the_laws 𝓛).typed t _ ist).0 $
           nothing ! $ gives ! T.the_row (LL.makes T.the_type T'.the_plain 𝓛) t (v₁ ∷ []) ist $
           asks-plain ! fm num.ended (num.clauses 𝓛 mem run) known-num ((tt, tt, tt, (t, tt), (v₁ ∷ [], tt)), tt) refl refl refl
-          (λ r. r ≡ number_of t.refusal) (λ r ws. refl) (arg ! 7 refl (no_more !)) (λ w r e₂ isr.
+          (λ r. r ≡ numberOf t.refusal) (λ r ws. refl) (arg ! 7 refl (no_more !)) (λ w r e₂ isr.
           kept ! 20 refl ((uint_Lawful 𝓛 w32).typed r _ isr).0 $ returns ! (look ! 20 refl) $
           gone ! 20 refl refl $ gone ! 18 refl refl $ gone ! 16 refl refl $ gone ! 14 refl refl $ gone ! 12 refl refl $
           gone ! 10 refl refl $ gone ! 8 refl refl $ gone ! 6 refl refl $ gone ! 4 refl refl $ gone ! 2 refl refl $ free0 ! $
           by ! (exits r w zr lr (finish asked g n u k xr.now c t zr r ec e e₂) isr))))))))))))))
 
   pub bare-meets : Asked → {M : Type 1} {𝓤 : Ura M} (𝓛 : Logic 𝓤) (𝓜 : Model 𝓤 𝓛.H) (𝓡 : Running 𝓤 𝓛.H 𝓜) (γ : Meaning) (key asked-name : Name)
-      → Closed 𝓤 𝓛.H (tables 𝓤 𝓛.H 𝓜 𝓡 γ).C (tables 𝓤 𝓛.H 𝓜 𝓡 γ).Λ key (code_of asked-name) → Known 𝓛 (tables 𝓤 𝓛.H 𝓜 𝓡 γ).C asked-name ask.ended (Asks 𝓤)
+      → Closed 𝓤 𝓛.H (tables 𝓤 𝓛.H 𝓜 𝓡 γ).C (tables 𝓤 𝓛.H 𝓜 𝓡 γ).Λ key (codeOf asked-name) → Known 𝓛 (tables 𝓤 𝓛.H 𝓜 𝓡 γ).C asked-name ask.ended (Asks 𝓤)
       → γ #on-row ≡ on-def.routine → γ #num ≡ num-def.routine → Known 𝓛 (tables 𝓤 𝓛.H 𝓜 𝓡 γ).C key f.ended (Answers 𝓤)
   bare-meets asked {𝓤 = 𝓤} 𝓛 𝓜 𝓡 γ key asked-name closed known is-on is-num =
       let n32 = goes32 𝓛 1 in
-      met-by-walk 𝓛 𝓜 𝓡 γ key (code_of asked-name) closed f.ended stayed
+      met-by-walk 𝓛 𝓜 𝓡 γ key (codeOf asked-name) closed f.ended stayed
       (n32, (n32, (n32, (Goes-gave_slice 𝓛 1 0 tt (plain (λ _. R.the_row)), (n32, tt))))) (Answers 𝓤)
       (λ κs. (uint_vals w32, (uint_vals w32, (uint_vals w32, (mut_slice_vals, (uint_vals w32, tt))))))
       (λ κs. (uint_Tells w32, (uint_Tells w32, (uint_Tells w32, (mut_slice_Tells (named 0) κs.0 R.the_row, (uint_Tells w32, tt))))))

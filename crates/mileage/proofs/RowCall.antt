@@ -1,4 +1,4 @@
--- What the walks of the four card calls share: a number or the rows as a parameter, and the call of `card_calls::on_row`. Assumes nothing.
+-- What the walks of the four card calls share: a number or the rows as a parameter, and the call of `card_calls::on-row`. Assumes nothing.
 use mathlib.Core.Path.{◌≡◌, refl}
 use mathlib.Core.List.{[], ◌∷◌, List}
 use Prim.Native.Nat.{ℕ}
@@ -37,7 +37,7 @@ use Rattle.cards.proofs.CardCall.TheLaws as K'
 use Rattle.cards.specs.contracts.CardRow as R
 use Rattle.cards.specs.contracts.Told as T
 use Rattle.card_calls.proofs.Calling.{Says, Known, gives, asks, knows}
-use Rattle.card_calls.specs.contracts.on_row as on
+use Rattle.card_calls.specs.contracts.on-row as on
 use Rattle.card_calls.proofs.on_row.Symbol as on-def
 use Rattle.card_calls.proofs.on_row.Symbol.{name as #on-row}
 use Rattle.card_calls.proofs.on_row.Met as on-thm
@@ -49,14 +49,14 @@ stay32 = stay_dropped (plain (λ _. u32)) yes
 pub goes32 : {M : Type 1} {𝓤 : Ura M} (𝓛 : Logic 𝓤) (n : ℕ) → Goes 𝓛 n (plain (λ _. u32)) yes stay32
 goes32 𝓛 n = Goes-dropped 𝓛 n (plain (λ _. u32)) yes (λ κs x f. refl)
 
--- what a function's tables know of `on_row`
+-- what a function's tables know of `on-row`
 pub knows-rows : {M : Type 1} {𝓤 : Ura M} (𝓛 : Logic 𝓤) (𝓜 : Model 𝓤 𝓛.H) (𝓡 : Running 𝓤 𝓛.H 𝓜) (γ : Meaning) → γ #on-row ≡ on-def.routine
     → Known 𝓛 (tables 𝓤 𝓛.H 𝓜 𝓡 γ).C #on-row on.ended (on.clauses 𝓛 𝓜.mem 𝓡.run)
 knows-rows {𝓤 = 𝓤} 𝓛 𝓜 𝓡 γ is = knows 𝓛 𝓜 𝓡 γ on.ended (on.clauses 𝓛) #on-row on-def.routine is (on-thm.met 𝓤 𝓛 𝓜 𝓡)
 
 module _ {M : Type 1} {𝓤 : Ura M} {𝓛 : Logic 𝓤} {G : Type 0} {Γ : List (Item 𝓤)} {E : Env 𝓤 𝓛.H} {C : Calls 𝓤 𝓛.H} {Λ : Loops 𝓤 𝓛.H}
     {q : Post 𝓤 𝓛.H} {d : Place} {xs : List Operand} {rest : Body} where
-  -- `on_row` is called with the call c and the rows
+  -- `on-row` is called with the call c and the rows
   open 𝓛 use {H}
 
   pub asks-rows : G → FmC 𝓤 H 𝓛.laws C → (mem : Memory → SProp 𝓤) (run : Routine → Fun 𝓤) → Known 𝓛 C #on-row on.ended (on.clauses 𝓛 mem run)

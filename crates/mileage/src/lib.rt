@@ -1,4 +1,6 @@
 // What a C program links: the version, logs and messages as plain numbers and as bytes, the four calls of a unit, and those of a card.
+#![tactic(auto)]
+
 ghost use Rattle.std.specs.Prelude.{◌≡◌, []};
 ghost use Rattle.tally.specs.Limits.{today, blankCode};
 ghost use Rattle.formats.specs.Formats.{wrote};

@@ -1,13 +1,13 @@
 // Tests of engines and of single estimates.
 ghost use Rattle.std.specs.Prelude.{◌≡◌};
 ghost use Rattle.tally.specs.Limits.{today};
-ghost use Rattle.contents.specs.Estimates.{in_range, is_b, isBlank, isSplit, isMileage, mileageOrBlank, mileageOrSplit, secondEstimateOk};
+ghost use Rattle.contents.specs.Estimates.{inRange, isB, isBlank, isSplit, isMileage, mileageOrBlank, mileageOrSplit, secondEstimateOk};
 ghost use Rattle.contents.specs.Estimates.{sameMileage, sameEngine, sameEstimate};
 
 use tally::{Engine, Estimate, limits};
 
 pub fn is_b(e: Engine) -> bool
-    ensures { result ≡ is_b e }
+    ensures { result ≡ isB e }
 {
     match e {
         Engine::B => true,
@@ -16,7 +16,7 @@ pub fn is_b(e: Engine) -> bool
 }
 
 pub fn in_range(m: u32) -> bool
-    ensures { result ≡ in_range today m }
+    ensures { result ≡ inRange today m }
 {
     m <= limits::MAX_MILEAGE
 }

@@ -1,7 +1,7 @@
 // Well-formed messages: each kind has its rule.
 ghost use Rattle.std.specs.Prelude.{◌≡◌};
 ghost use Rattle.tally.specs.Limits.{today};
-ghost use Rattle.contents.specs.Messages.{is_empty, firstOk, checkOk, secondOk, skipOk, kindOk, messageOk};
+ghost use Rattle.contents.specs.Messages.{isEmpty, firstOk, checkOk, secondOk, skipOk, kindOk, messageOk};
 
 use super::{estimates, logs};
 use contents::{Kind, Message};
@@ -9,7 +9,7 @@ use tally::limits;
 
 // An empty message counts as no message.
 pub fn is_empty(kind: Kind) -> bool
-    ensures { result ≡ is_empty kind }
+    ensures { result ≡ isEmpty kind }
 {
     match kind {
         Kind::Empty => true,

@@ -7,24 +7,24 @@ use native.Mathlib.Omega.{arith}
 use borrow.Author.Tests.{ltb-true, eqb-true}
 use lib.Dec.{ltb, eqb}
 use lib.ListN.{length}
-use Rattle.script.specs.Numbers.{is_number, readNumber}
+use Rattle.script.specs.Numbers.{isNumber, readNumber}
 use Rattle.script.specs.Parts.{comma, onto, parted}
-use Rattle.script.specs.Script.{one_of, twoOf, unitBelow, pairBelow, ofOne, ofTwo, letterP, letterD, letterW, letterK, letterU, byLetter, eventFields}
+use Rattle.script.specs.Script.{oneOf, twoOf, unitBelow, pairBelow, ofOne, ofTwo, letterP, letterD, letterW, letterK, letterU, byLetter, eventFields}
 use Rattle.script.specs.Script.{eventOf, eventUnit}
 use Rattle.script.specs.declared.ScriptEvent.{ScriptEvent}
 use Rattle.script.specs.declared.NumberRead.{NumberRead}
 use Rattle.script.specs.declared.PairRead.{PairRead}
 
-cond_same : (t : Bool) (x : ScriptEvent) → cond t x x ≡ x
-cond_same true x = refl
-cond_same false x = refl
+cond-same : (t : Bool) (x : ScriptEvent) → cond t x x ≡ x
+cond-same true x = refl
+cond-same false x = refl
 
 module _ (n : ℕ) where
   -- ---- first bytes
 
-  letter-malformed : (b : ℕ) (fs : List (List ℕ)) → one_of fs ≡ NumberRead.Malformed → twoOf fs ≡ PairRead.Malformed → byLetter n b fs ≡ ScriptEvent.Malformed
+  letter-malformed : (b : ℕ) (fs : List (List ℕ)) → oneOf fs ≡ NumberRead.Malformed → twoOf fs ≡ PairRead.Malformed → byLetter n b fs ≡ ScriptEvent.Malformed
   unfolding byLetter
-  letter-malformed b fs p q = simp (p, q, cond_same)
+  letter-malformed b fs p q = simp (p, q, cond-same)
 
   pub letter-line : (b : ℕ) (s : List ℕ) → eventOf n (b ∷ comma ∷ s) ≡ byLetter n b (parted comma s)
   unfolding byLetter eventOf
@@ -44,7 +44,7 @@ module _ (n : ℕ) where
       go false (p ∷ ps) = refl
 
   pub short-line : (line : List ℕ) → length line < 3 → eventOf n line ≡ ScriptEvent.Malformed
-  unfolding is_number readNumber eventOf
+  unfolding isNumber readNumber eventOf
   short-line [] h = refl
   short-line (b ∷ []) h = go (eqb b comma)
     where
@@ -61,13 +61,13 @@ module _ (n : ℕ) where
   -- ---- units
 
   module _ (some : 0 < n) where
-    one_unit : (make : ℕ → ScriptEvent) → ((u : ℕ) → eventUnit (make u) ≡ u) → (a : NumberRead) → eventUnit (ofOne make (unitBelow n a)) < n
-    one_unit make e (NumberRead.Is u) = go (ltb u n) refl
+    one-unit : (make : ℕ → ScriptEvent) → ((u : ℕ) → eventUnit (make u) ≡ u) → (a : NumberRead) → eventUnit (ofOne make (unitBelow n a)) < n
+    one-unit make e (NumberRead.Is u) = go (ltb u n) refl
       where
         go : (t : Bool) → ltb u n ≡ t → eventUnit (ofOne make (cond t (NumberRead.Is u) NumberRead.Malformed)) < n
         go true t = rw (e u) (ltb-true u n t)
         go false t = some
-    one_unit make e NumberRead.Malformed = some
+    one-unit make e NumberRead.Malformed = some
 
     two-unit : (make : ℕ → ℕ → ScriptEvent) → ((u x : ℕ) → eventUnit (make u x) ≡ u) → (p : PairRead) → eventUnit (ofTwo make (pairBelow n p)) < n
     two-unit make e (PairRead.Are u x) = go (ltb u n) refl
@@ -85,12 +85,12 @@ module _ (n : ℕ) where
     unfolding byLetter
     letter-unit b fs =
         let two = twoOf fs in
-        let one = one_of fs in
+        let one = oneOf fs in
         either (eqb b letterP) _ _ (two-unit ScriptEvent.Propose (λ u x. refl) two)
         (either (eqb b letterD) _ _ (two-unit ScriptEvent.Deliver (λ u x. refl) two)
         (either (eqb b letterW) _ _ (two-unit ScriptEvent.Cut (λ u x. refl) two)
-        (either (eqb b letterK) _ _ (one_unit ScriptEvent.KeyOff (λ u. refl) one)
-        (either (eqb b letterU) _ _ (one_unit ScriptEvent.KeyOn (λ u. refl) one) some))))
+        (either (eqb b letterK) _ _ (one-unit ScriptEvent.KeyOff (λ u. refl) one)
+        (either (eqb b letterU) _ _ (one-unit ScriptEvent.KeyOn (λ u. refl) one) some))))
 
     fields-unit : (ps : List (List ℕ)) → eventUnit (eventFields n ps) < n
     fields-unit [] = some

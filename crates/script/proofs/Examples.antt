@@ -3,7 +3,7 @@ use Prim.Native.Nat.{ℕ, ◌+◌}
 use mathlib.Core.Path.{◌≡◌, refl}
 use mathlib.Core.List.{List, [], ◌∷◌, ◌++◌, map}
 use Rattle.tally.specs.declared.Engine.{Engine}
-use Rattle.script.specs.Numbers.{digitZero, is_number, readNumber}
+use Rattle.script.specs.Numbers.{digitZero, isNumber, readNumber}
 use Rattle.script.specs.Parts.{newline, comma}
 use Rattle.script.specs.Script.{letterP, letterD, letterW, letterK, letterU, headerOf, byLetter, eventOf, Script, malformed, script, eventsOf, parse}
 use Rattle.script.specs.declared.ScriptEvent.{ScriptEvent}
@@ -16,13 +16,13 @@ pub data Question : Type 0 where
   field header line whole : List ℕ → Question
 
 pub data Outcome : Type 0 where
-  a_number : NumberRead → Outcome
+  aNumber : NumberRead → Outcome
   aHeader : HeaderRead → Outcome
   anEvent : ScriptEvent → Outcome
   aScript : Script → Outcome
 
 abbrev outcome : Question → Outcome
-outcome (field s) = a_number (readNumber s)
+outcome (field s) = aNumber (readNumber s)
 outcome (header s) = aHeader (headerOf s)
 outcome (line s) = anEvent (eventOf 3 s)
 outcome (whole s) = aScript (parse s)
@@ -77,16 +77,16 @@ return = 13
 -- ---- cases
 
 abbrev number : List ℕ → ℕ → Case
-number ds v = record { question = field (digits ds); expected = a_number (NumberRead.Is v) }
+number ds v = record { question = field (digits ds); expected = aNumber (NumberRead.Is v) }
 
 abbrev noNumber : List ℕ → Case
-noNumber s = record { question = field s; expected = a_number NumberRead.Malformed }
+noNumber s = record { question = field s; expected = aNumber NumberRead.Malformed }
 
 abbrev heads : List ℕ → Engine → ℕ → ℕ → Case
 heads s engine n entry = record { question = header s; expected = aHeader (HeaderRead.Is (record { engine = engine; n = n; entry = entry })) }
 
-abbrev no_header : List ℕ → Case
-no_header s = record { question = header s; expected = aHeader HeaderRead.Malformed }
+abbrev noHeader : List ℕ → Case
+noHeader s = record { question = header s; expected = aHeader HeaderRead.Malformed }
 
 abbrev event : List ℕ → ScriptEvent → Case
 event s e = record { question = line s; expected = anEvent e }
@@ -125,14 +125,14 @@ cases =
     ∷ heads (with R ((1 ∷ 6 ∷ []) ∷ (9 ∷ 9 ∷ 9 ∷ 9 ∷ []) ∷ [])) Engine.R 16 9999
     ∷ heads (with B ((3 ∷ []) ∷ (1 ∷ []) ∷ [])) Engine.B 3 1
     -- B,2,7; B,17,7; B,3,0; B,3,10000; b,3,7; BB,3,7; B,3; B,3,7 and a comma
-    ∷ no_header (with B ((2 ∷ []) ∷ (7 ∷ []) ∷ []))
-    ∷ no_header (with B ((1 ∷ 7 ∷ []) ∷ (7 ∷ []) ∷ []))
-    ∷ no_header (with B ((3 ∷ []) ∷ (0 ∷ []) ∷ []))
-    ∷ no_header (with B ((3 ∷ []) ∷ (1 ∷ 0 ∷ 0 ∷ 0 ∷ 0 ∷ []) ∷ []))
-    ∷ no_header (with b ((3 ∷ []) ∷ (7 ∷ []) ∷ []))
-    ∷ no_header (B ∷ head)
-    ∷ no_header (with B ((3 ∷ []) ∷ []))
-    ∷ no_header (head ++ comma ∷ [])
+    ∷ noHeader (with B ((2 ∷ []) ∷ (7 ∷ []) ∷ []))
+    ∷ noHeader (with B ((1 ∷ 7 ∷ []) ∷ (7 ∷ []) ∷ []))
+    ∷ noHeader (with B ((3 ∷ []) ∷ (0 ∷ []) ∷ []))
+    ∷ noHeader (with B ((3 ∷ []) ∷ (1 ∷ 0 ∷ 0 ∷ 0 ∷ 0 ∷ []) ∷ []))
+    ∷ noHeader (with b ((3 ∷ []) ∷ (7 ∷ []) ∷ []))
+    ∷ noHeader (B ∷ head)
+    ∷ noHeader (with B ((3 ∷ []) ∷ []))
+    ∷ noHeader (head ++ comma ∷ [])
     -- P,0,5; D,0,0; W,2,12; K,0; U,2
     ∷ event (with letterP ((0 ∷ []) ∷ (5 ∷ []) ∷ [])) (ScriptEvent.Propose 0 5)
     ∷ event (with letterD ((0 ∷ []) ∷ (0 ∷ []) ∷ [])) (ScriptEvent.Deliver 0 0)
@@ -161,6 +161,6 @@ cases =
     ∷ reads (ended head ++ newline ∷ []) (script b37 (ScriptEvent.Malformed ∷ []))
     ∷ []
 
-pub all_hold : map (λ c. outcome c.question) cases ≡ map (λ c. c.expected) cases
-unfolding is_number readNumber headerOf byLetter eventOf eventsOf parse
-all_hold = refl
+pub all-hold : map (λ c. outcome c.question) cases ≡ map (λ c. c.expected) cases
+unfolding isNumber readNumber headerOf byLetter eventOf eventsOf parse
+all-hold = refl

@@ -7,7 +7,7 @@ use native.Mathlib.Omega.{arith}
 use borrow.Author.Tests.{leb-true}
 use lib.Dec.{leb}
 use Rattle.tally.specs.Limits.{minUnits, maxUnits, minEntry, maxEntry}
-use Rattle.contents.proofs.Tests.{both_true}
+use Rattle.contents.proofs.Tests.{both-true}
 use Rattle.formats.specs.declared.EngineRead.{EngineRead}
 use Rattle.script.specs.Parts.{comma, parted}
 use Rattle.script.specs.Script.{twoOf, engineField, inRanges, headerWith, withNumbers, headerFields, headerOf}
@@ -17,14 +17,14 @@ use Rattle.script.specs.declared.PairRead.{PairRead}
 
 pub ranges : (n entry : ℕ) → inRanges n entry ≡ true → (minUnits ≤ n) × (n ≤ maxUnits) × (minEntry ≤ entry) × (entry ≤ maxEntry)
 ranges n entry h =
-    let a = both_true (leb minUnits n && leb n maxUnits && leb minEntry entry) (leb entry maxEntry) h in
-    let b = both_true (leb minUnits n && leb n maxUnits) (leb minEntry entry) a.0 in
-    let d = both_true (leb minUnits n) (leb n maxUnits) b.0 in
+    let a = both-true (leb minUnits n && leb n maxUnits && leb minEntry entry) (leb entry maxEntry) h in
+    let b = both-true (leb minUnits n && leb n maxUnits) (leb minEntry entry) a.0 in
+    let d = both-true (leb minUnits n) (leb n maxUnits) b.0 in
     (leb-true minUnits n d.0, leb-true n maxUnits d.1, leb-true minEntry entry b.1, leb-true entry maxEntry a.1)
 
 pub header-range : (line : List ℕ) (h : Header) → headerOf line ≡ HeaderRead.Is h → inRanges h.n h.entry ≡ true
 unfolding headerOf
-header-range line h = of_fields (parted comma line)
+header-range line h = of-fields (parted comma line)
   where
     unread : {A : Type 0} → HeaderRead.Malformed ≡ HeaderRead.Is h → A
     unread e = let z : ◌≡◌ {A = ℕ} 0 1 = cc in absurd (omega arith)
@@ -42,6 +42,6 @@ header-range line h = of_fields (parted comma line)
         go false r = unread (rw r at e)
     of-numbers f PairRead.Malformed e = unread e
 
-    of_fields : (fs : List (List ℕ)) → headerFields fs ≡ HeaderRead.Is h → inRanges h.n h.entry ≡ true
-    of_fields [] e = unread e
-    of_fields (f ∷ fs) e = of-numbers f (twoOf fs) e
+    of-fields : (fs : List (List ℕ)) → headerFields fs ≡ HeaderRead.Is h → inRanges h.n h.entry ≡ true
+    of-fields [] e = unread e
+    of-fields (f ∷ fs) e = of-numbers f (twoOf fs) e

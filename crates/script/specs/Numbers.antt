@@ -32,8 +32,8 @@ valueFrom v [] = v
 valueFrom v (b ∷ s) = valueFrom (v * 10 + (b - digitZero)) s
 
 -- 1 to 10 digits, no leading zero, at most 4,294,967,295
-unfoldable pub is_number : List ℕ → Bool
-is_number s =
+unfoldable pub isNumber : List ℕ → Bool
+isNumber s =
     leb 1 (length s)
     && leb (length s) maxDigits
     && allDigits s
@@ -41,4 +41,4 @@ is_number s =
     && leb (valueFrom 0 s) maxNumber
 
 unfoldable pub readNumber : List ℕ → NumberRead
-readNumber s = cond (is_number s) (NumberRead.Is (valueFrom 0 s)) NumberRead.Malformed
+readNumber s = cond (isNumber s) (NumberRead.Is (valueFrom 0 s)) NumberRead.Malformed

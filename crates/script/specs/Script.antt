@@ -21,10 +21,10 @@ both (NumberRead.Is a) NumberRead.Malformed = PairRead.Malformed
 both NumberRead.Malformed b = PairRead.Malformed
 
 -- fields that are one number, or two; field counts are exact
-abbrev pub one_of : List (List ℕ) → NumberRead
-one_of [] = NumberRead.Malformed
-one_of (a ∷ []) = readNumber a
-one_of (a ∷ b ∷ fs) = NumberRead.Malformed
+abbrev pub oneOf : List (List ℕ) → NumberRead
+oneOf [] = NumberRead.Malformed
+oneOf (a ∷ []) = readNumber a
+oneOf (a ∷ b ∷ fs) = NumberRead.Malformed
 
 abbrev pub twoOf : List (List ℕ) → PairRead
 twoOf [] = PairRead.Malformed
@@ -102,8 +102,8 @@ byLetter n b fs =
     cond (eqb b letterP) (ofTwo ScriptEvent.Propose (pairBelow n (twoOf fs)))
     (cond (eqb b letterD) (ofTwo ScriptEvent.Deliver (pairBelow n (twoOf fs)))
     (cond (eqb b letterW) (ofTwo ScriptEvent.Cut (pairBelow n (twoOf fs)))
-    (cond (eqb b letterK) (ofOne ScriptEvent.KeyOff (unitBelow n (one_of fs)))
-    (cond (eqb b letterU) (ofOne ScriptEvent.KeyOn (unitBelow n (one_of fs)))
+    (cond (eqb b letterK) (ofOne ScriptEvent.KeyOff (unitBelow n (oneOf fs)))
+    (cond (eqb b letterU) (ofOne ScriptEvent.KeyOn (unitBelow n (oneOf fs)))
     ScriptEvent.Malformed))))
 
 abbrev pub byField : ℕ → List ℕ → List (List ℕ) → ScriptEvent

@@ -1,4 +1,6 @@
 // The script of the bench: its header, its events and their numbers. How they are written is in specs/; crate bench_script reads them.
+#![tactic(auto)]
+
 use tally::Engine;
 
 // A field that should be a number.

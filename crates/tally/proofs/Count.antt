@@ -6,7 +6,7 @@ use Prim.Native.Nat.{ℕ, zero, suc, ◌+◌, ◌≤◌, ◌<◌}
 use native.Mathlib.Decide.{dec_lt}
 use native.Mathlib.Omega.{arith}
 use lib.ListN.{length}
-use Rattle.tally.specs.Count.{bump, passing, up_to, count, Both}
+use Rattle.tally.specs.Count.{bump, passing, upTo, count, Both}
 use Rattle.tally.proofs.Never.{never}
 
 -- ---- of a list
@@ -41,9 +41,9 @@ module _ {A : Type 0} where
   Each F [] = Unit
   Each F (x ∷ xs) = F x × Each F xs
 
-  pub each_map : {F G : A → Type 0} → ((x : A) → F x → G x) → (xs : List A) → Each F xs → Each G xs
-  each_map f [] h = tt
-  each_map f (x ∷ xs) h = (f x h.0, each_map f xs h.1)
+  pub each-map : {F G : A → Type 0} → ((x : A) → F x → G x) → (xs : List A) → Each F xs → Each G xs
+  each-map f [] h = tt
+  each-map f (x ∷ xs) h = (f x h.0, each-map f xs h.1)
 
   pub each : (F : A → Type 0) → ((x : A) → F x) → (xs : List A) → Each F xs
   each F f [] = tt
@@ -62,17 +62,17 @@ module _ {A : Type 0} where
 
 -- ---- of the units below n
 
-each_below : (n : ℕ) (F : ℕ → Type 0) → ((u : ℕ) → u < n → F u) → Each F (up_to n)
-each_below zero F f = tt
-each_below (suc k) F f = (f k (omega arith), each_below k F (λ u h. f u (omega arith)))
+each-below : (n : ℕ) (F : ℕ → Type 0) → ((u : ℕ) → u < n → F u) → Each F (upTo n)
+each-below zero F f = tt
+each-below (suc k) F f = (f k (omega arith), each-below k F (λ u h. f u (omega arith)))
 
 pub count-mono : (n : ℕ) (P Q : ℕ → Bool) → ((u : ℕ) → u < n → P u ≡ true → Q u ≡ true) → count n P ≤ count n Q
-count-mono n P Q f = passing-mono P Q (up_to n) (each_below n (λ u. P u ≡ true → Q u ≡ true) f)
+count-mono n P Q f = passing-mono P Q (upTo n) (each-below n (λ u. P u ≡ true → Q u ≡ true) f)
 
 -- a count goes by what each unit passes
-pub count_same : (n : ℕ) (P Q : ℕ → Bool) → ((u : ℕ) → u < n → P u ≡ Q u) → count n P ≡ count n Q
-count_same zero P Q f = refl
-count_same (suc k) P Q f = rw (f k (omega arith), count_same k P Q (λ u h. f u (omega arith)))
+pub count-same : (n : ℕ) (P Q : ℕ → Bool) → ((u : ℕ) → u < n → P u ≡ Q u) → count n P ≡ count n Q
+count-same zero P Q f = refl
+count-same (suc k) P Q f = rw (f k (omega arith), count-same k P Q (λ u h. f u (omega arith)))
 
 -- units that do not pass may be left out
 pub count-below : (n k : ℕ) (P : ℕ → Bool) → n ≤ k → ((u : ℕ) → n ≤ u → u < k → P u ≡ false) → count k P ≡ count n P

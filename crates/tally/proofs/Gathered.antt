@@ -41,15 +41,15 @@ after Blank es = common es
 after Split es = Split
 after (Mileage v) es = cond (allHold v es) (Mileage v) Split
 
-pub after_one : (a e : Estimate) (es : List Estimate) → after a (e ∷ es) ≡ cond (agrees a e) (after e es) Split
+pub after-one : (a e : Estimate) (es : List Estimate) → after a (e ∷ es) ≡ cond (agrees a e) (after e es) Split
 unfolding common allHold
-after_one Blank Blank es = refl
-after_one Blank Split es = refl
-after_one Blank (Mileage v) es = refl
-after_one Split e es = refl
-after_one (Mileage v) Blank es = refl
-after_one (Mileage v) Split es = refl
-after_one (Mileage v) (Mileage w) es = go (eqb w v) refl
+after-one Blank Blank es = refl
+after-one Blank Split es = refl
+after-one Blank (Mileage v) es = refl
+after-one Split e es = refl
+after-one (Mileage v) Blank es = refl
+after-one (Mileage v) Split es = refl
+after-one (Mileage v) (Mileage w) es = go (eqb w v) refl
   where
     go : (b : Bool) → eqb w v ≡ b → cond (b && allHold v es) (Mileage v) Split ≡ cond b (cond (allHold w es) (Mileage w) Split) Split
     go true h = rw (eqb-true w v h)
@@ -108,15 +108,15 @@ found P Q blank (e ∷ es) f = go (P e) refl (found P Q blank es f.1)
     go false p ih = ih
 
 -- what is found passes
-pub first_passes : (P : Estimate → Bool) (es : List Estimate) (v : ℕ) → firstPassing P es ≡ Mileage v → P (Mileage v) ≡ true
-first_passes P es v =
+pub first-passes : (P : Estimate → Bool) (es : List Estimate) (v : ℕ) → firstPassing P es ≡ Mileage v → P (Mileage v) ≡ true
+first-passes P es v =
     found P (λ e. e ≡ Mileage v → P (Mileage v) ≡ true) (λ h. never cc) es
     (each (λ e. P e ≡ true → e ≡ Mileage v → P (Mileage v) ≡ true) (λ e p h. rw h at p) es)
 
 -- the majority mileage is one that a majority holds
 pub majority-held : (need : ℕ) (es : List Estimate) (v : ℕ) → majority need es ≡ Mileage v → need ≤ holders v es
 unfolding majority leads
-majority-held need es v h = leb-true need (holders v es) (first_passes (leads need es) es v h)
+majority-held need es v h = leb-true need (holders v es) (first-passes (leads need es) es v h)
 
 -- and the only one: where some mileage is held by over half, it is found
 pub majority-found : (need : ℕ) (es : List Estimate) (v : ℕ) → length es < need + need → need ≤ holders v es → majority need es ≡ Mileage v
@@ -146,7 +146,7 @@ majority-found need es v over h = go (firstPassing P es) refl
         by : (b : Bool) → eqb w v ≡ b → firstPassing P es ≡ Mileage v
         by true q = e ∙ ap Mileage (eqb-true w v q)
         by false q =
-            let lead = leb-true need (holders w es) (first_passes P es w e) in
+            let lead = leb-true need (holders w es) (first-passes P es w e) in
             absurd (omega (arith, holders-apart w v (eqb-false w v q) es))
 
 -- blank where no mileage is held by a majority

@@ -22,27 +22,27 @@ bit P p q zero h = p
 bit P p q (suc zero) h = q
 bit P p q (suc (suc b)) h = absurd (omega arith)
 
-below_two : (n : ℕ) → n % 2 < 2
-below_two n = omega arith
+below-two : (n : ℕ) → n % 2 < 2
+below-two n = omega arith
 
 bump-bit : (k b : ℕ) → b < 2 → ones b + k ≡ bump (eqb b 1) k
 unfolding ones
 bump-bit k b h = bit (λ b. ones b + k ≡ bump (eqb b 1) k) (zero-add k) (one-add k) b h
 
 -- the lowest k marks, counted
-ones_below : (m k : ℕ) → ones (m % 2 ^ k) ≡ count k (isMarked m)
+ones-below : (m k : ℕ) → ones (m % 2 ^ k) ≡ count k (isMarked m)
 unfolding ones
-ones_below m zero = rw mod-one
-ones_below m (suc k) =
+ones-below m zero = rw mod-one
+ones-below m (suc k) =
     ap (λ (x : ℕ). ones (m % 2 ^ x)) (sym (one-add k))
     ∙ ap ones (mod-pow-add m 1 k)
     ∙ ones_cat k (m / 2 ^ k % 2) (m % 2 ^ k) (mod-lt m (pow_pos k))
-    ∙ ap (λ (x : ℕ). ones (m / 2 ^ k % 2) + x) (ones_below m k)
-    ∙ bump-bit (count k (isMarked m)) (m / 2 ^ k % 2) (below_two (m / 2 ^ k))
+    ∙ ap (λ (x : ℕ). ones (m / 2 ^ k % 2) + x) (ones-below m k)
+    ∙ bump-bit (count k (isMarked m)) (m / 2 ^ k % 2) (below-two (m / 2 ^ k))
 
 -- the ones of the marks are the number of marked senders
 pub ones-senders : (m : ℕ) → m < 2 ^ senders → ones m ≡ count senders (isMarked m)
-ones-senders m h = ap ones (sym (mod-eq_of_lt h)) ∙ ones_below m senders
+ones-senders m h = ap ones (sym (mod-eq_of_lt h)) ∙ ones-below m senders
 
 -- setting a bit that is not set adds its value
 or-clear : (m s : ℕ) → m / 2 ^ s % 2 ≡ 0 → bit_or m (2 ^ s) ≡ m + 2 ^ s
@@ -65,7 +65,7 @@ pub mark-adds : (m s : ℕ) → isMarked m s ≡ false → ones (bit_or m (2 ^ s
 mark-adds m s e =
     let q = m / 2 ^ s in
     let r = m % 2 ^ s in
-    let clear : q % 2 ≡ 0 = omega (arith, eqb-false (q % 2) 1 e, below_two q) in
+    let clear : q % 2 ≡ 0 = omega (arith, eqb-false (q % 2) 1 e, below-two q) in
     let d : (q + 1) * 2 ^ s ≡ q * 2 ^ s + 2 ^ s = rw add-one (suc-mul q (2 ^ s)) in
     ap ones (or-clear m s clear ∙ omega (arith, split m s, d))
     ∙ ones_cat s (q + 1) r (mod-lt m (pow_pos s))
@@ -100,7 +100,7 @@ mark-same m s =
     (ap (λ (x : ℕ). x % 2) (or_shr m (2 ^ s) s)
     ∙ or_mod (m / 2 ^ s) (2 ^ s / 2 ^ s) 1
     ∙ ap (λ (x : ℕ). bit_or (m / 2 ^ s % 2) (x % 2)) (ap (λ (x : ℕ). x / 2 ^ s) (sym (one-mul (2 ^ s))) ∙ shl-shr 1 s)
-    ∙ or-one (m / 2 ^ s % 2) (below_two (m / 2 ^ s)))
+    ∙ or-one (m / 2 ^ s % 2) (below-two (m / 2 ^ s)))
 
 -- other senders keep their marks
 pub mark-other : (m s u : ℕ) → (u ≡ s → ⊥) → isMarked (bit_or m (2 ^ s)) u ≡ isMarked m u

@@ -22,8 +22,8 @@ use Rattle.tally.specs.declared.Engine.{Engine}
 use Rattle.tally.specs.declared.Estimate.{Estimate}
 use Rattle.tally.specs.declared.Estimate.TheVariants.{Blank, Split}
 use Rattle.tally.specs.declared.Tally.{Tally}
-use Rattle.tally.proofs.Count.{passing-all, count_same, count-below}
-use Rattle.tally.proofs.Gathered.{after, after_one}
+use Rattle.tally.proofs.Count.{passing-all, count-same, count-below}
+use Rattle.tally.proofs.Gathered.{after, after-one}
 use Rattle.tally.proofs.Quorums.{quorums-overlap}
 use Rattle.tally.proofs.Marks.{ones-senders, mark-same, mark-other, unmarked-none}
 
@@ -38,16 +38,16 @@ rest-step t s below = let e : senders - s ≡ suc (senders - (s + 1)) = omega ar
 
 -- the same, for those that pass a test
 module _ (P : Estimate → Bool) (t : Tally) (s : ℕ) (below : s < senders) where
-  pub passing_step : passing P (rest t s) ≡ bump (isMarked t.marks s && P (estimateAt t s)) (passing P (rest t (s + 1)))
-  passing_step = ap (passing P) (rest-step t s below) ∙ go (isMarked t.marks s) (rest t (s + 1))
+  pub passing-step : passing P (rest t s) ≡ bump (isMarked t.marks s && P (estimateAt t s)) (passing P (rest t (s + 1)))
+  passing-step = ap (passing P) (rest-step t s below) ∙ go (isMarked t.marks s) (rest t (s + 1))
     where
       go : (b : Bool) (es : List Estimate) → passing P (cond b (estimateAt t s ∷ es) es) ≡ bump (b && P (estimateAt t s)) (passing P es)
       go true es = refl
       go false es = refl
 
-  pub first_step : firstPassing P (rest t s) ≡ cond (isMarked t.marks s && P (estimateAt t s)) (estimateAt t s) (firstPassing P (rest t (s + 1)))
+  pub first-step : firstPassing P (rest t s) ≡ cond (isMarked t.marks s && P (estimateAt t s)) (estimateAt t s) (firstPassing P (rest t (s + 1)))
   unfolding firstPassing
-  first_step = ap (firstPassing P) (rest-step t s below) ∙ go (isMarked t.marks s) (rest t (s + 1))
+  first-step = ap (firstPassing P) (rest-step t s below) ∙ go (isMarked t.marks s) (rest t (s + 1))
     where
       go : (b : Bool) (es : List Estimate) → firstPassing P (cond b (estimateAt t s ∷ es) es)
           ≡ cond (b && P (estimateAt t s)) (estimateAt t s) (firstPassing P es)
@@ -62,7 +62,7 @@ after-step a t s below = ap (after a) (rest-step t s below) ∙ go (isMarked t.m
   where
     go : (b : Bool) (es : List Estimate)
         → after a (cond b (estimateAt t s ∷ es) es) ≡ cond b (cond (agrees a (estimateAt t s)) (after (estimateAt t s) es) Split) (after a es)
-    go true es = after_one a (estimateAt t s) es
+    go true es = after-one a (estimateAt t s) es
     go false es = refl
 
 -- those gathered that pass a test are the marked senders whose estimate does
@@ -96,7 +96,7 @@ pub length-gathered : (t : Tally) → t.marks < 2 ^ senders → length (gathered
 length-gathered t h =
     sym (passing-all (gathered t))
     ∙ passing-senders (λ e. true) t
-    ∙ count_same senders (λ u. isMarked t.marks u && true) (isMarked t.marks) (λ u b. and-true (isMarked t.marks u))
+    ∙ count-same senders (λ u. isMarked t.marks u && true) (isMarked t.marks) (λ u b. and-true (isMarked t.marks u))
     ∙ sym (ones-senders t.marks h)
 
 -- the holders of v, counted over unit numbers
@@ -104,7 +104,7 @@ pub holders-senders : (v : ℕ) (t : Tally) → holders v (gathered t) ≡ count
 unfolding holders held
 holders-senders v t =
     passing-senders (hasValue v) t
-    ∙ count_same senders (λ u. isMarked t.marks u && hasValue v (estimateAt t u)) (λ u. hasValue v (cond (isMarked t.marks u) (estimateAt t u) Blank))
+    ∙ count-same senders (λ u. isMarked t.marks u && hasValue v (estimateAt t u)) (λ u. hasValue v (cond (isMarked t.marks u) (estimateAt t u) Blank))
     (λ u b. go (isMarked t.marks u) (estimateAt t u))
   where
     go : (b : Bool) (e : Estimate) → (b && hasValue v e) ≡ hasValue v (cond b e Blank)
@@ -121,9 +121,9 @@ unfolding mark
 estimate-other-at t s u e n = ap (λ (c : Cell). c.estimate) (get_or-set_other t.cells s u (record { estimate = e }) blankCell n)
 
 -- and so it holds it
-pub held_same : (t : Tally) (s : ℕ) (e : Estimate) → s < length t.cells → held (mark t s e) s ≡ e
+pub held-same : (t : Tally) (s : ℕ) (e : Estimate) → s < length t.cells → held (mark t s e) s ≡ e
 unfolding held mark
-held_same t s e h = rw (mark-same t.marks s) (estimate-same-at t s e h)
+held-same t s e h = rw (mark-same t.marks s) (estimate-same-at t s e h)
 
 pub held-other : (t : Tally) (s u : ℕ) (e : Estimate) → (u ≡ s → ⊥) → held (mark t s e) u ≡ held t u
 unfolding held mark

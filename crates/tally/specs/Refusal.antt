@@ -3,29 +3,29 @@ use Rattle.std.specs.Prelude.{ℕ}
 use Rattle.tally.specs.declared.Refusal.{Refusal}
 use Rattle.tally.specs.declared.Refusal.TheVariants.{None, Length, Log, Image, Message, Addressee, Mileage, LastRound, Line, Power, Unsent, Full, Row}
 
-abbrev pub number_of : Refusal → ℕ
-number_of None = 0
+abbrev pub numberOf : Refusal → ℕ
+numberOf None = 0
 -- a buffer's length is wrong
-number_of Length = 1
+numberOf Length = 1
 -- log malformed, or fresh-unit settings out of range
-number_of Log = 2
+numberOf Log = 2
 -- image malformed or not fitting
-number_of Image = 3
+numberOf Image = 3
 -- message malformed
-number_of Message = 4
+numberOf Message = 4
 -- other engine, n, entry or receiver
-number_of Addressee = 5
+numberOf Addressee = 5
 -- mileage out of range
-number_of Mileage = 6
+numberOf Mileage = 6
 -- this SECOND would close the last round
-number_of LastRound = 7
+numberOf LastRound = 7
 -- script line malformed
-number_of Line = 8
+numberOf Line = 8
 -- unit down, or for key-on not down
-number_of Power = 9
+numberOf Power = 9
 -- message number not yet sent
-number_of Unsent = 10
+numberOf Unsent = 10
 -- event would send while all places are filled
-number_of Full = 11
+numberOf Full = 11
 -- a message's entry, or a call's row number, names no row of the card (request 1)
-number_of Row = 12
+numberOf Row = 12

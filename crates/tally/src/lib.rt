@@ -7,7 +7,7 @@ ghost use Rattle.std.specs.Prelude.{◌≡◌, ◌<◌, ◌≤◌, ◌-◌, ◌^
 ghost use Rattle.std.specs.Int.Bits.{bit_or};
 ghost use Rattle.std.specs.Int.Count.{ones};
 ghost use Rattle.tally.specs.Limits.{senders};
-ghost use Rattle.tally.specs.Refusal.{number_of};
+ghost use Rattle.tally.specs.Refusal.{numberOf};
 ghost use Rattle.tally.specs.Quorum.{quorumOf, majorityOf};
 ghost use Rattle.tally.specs.Tally.{isMarked, noMarks, mark, gathered, gatheredFrom};
 ghost use Rattle.tally.specs.Gathered.{anyMileage, hasValue, holders, common, lowest, leads, firstPassing, majority};
@@ -48,7 +48,7 @@ pub enum Refusal {
 
 // The number that a caller is told.
 pub fn number(r: Refusal) -> u32
-    ensures { result ≡ number_of r }
+    ensures { result ≡ numberOf r }
 {
     match r {
         Refusal::None => 0,

@@ -1,4 +1,6 @@
 // The four calls of a unit over the bytes of its log and image.
+#![tactic(auto)]
+
 mod buffers;
 
 ghost use Rattle.std.specs.Prelude.{◌≡◌, []};

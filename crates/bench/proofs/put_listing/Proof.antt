@@ -5,7 +5,7 @@ use borrow.Author.Rules.{rules}
 use lib.Seq.{length-take-le}
 use Rattle.tally.specs.Limits.{today}
 use Rattle.script.proofs.HeaderLines.{header-range}
-use Rattle.bench.proofs.Whole.{listing-long, listing_none, listing-bad, listing-read}
+use Rattle.bench.proofs.Whole.{listing-long, listing-none, listing-bad, listing-read}
 use Rattle.bench.proofs.put_listing.Statement.{statement}
 use Rattle.bench.proofs.put_listing.Tie as tie
 
@@ -26,7 +26,7 @@ put-listing-spec =
     let t = c.before.before.before.before in
     let b = t.before in
     let x = b.before.before.before.before.args in
-    rw (listing_none today x.script.now b.before.if1.false b.before2.result b.before2.ensures t.if2.true)
+    rw (listing-none today x.script.now b.before.if1.false b.before2.result b.before2.ensures t.if2.true)
     c.before.before.put-malformed2.ensures)
     (λ c.
     let b = c.before.before in

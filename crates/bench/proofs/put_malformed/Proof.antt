@@ -1,7 +1,7 @@
 use native.Mathlib.Omega.{arith}
 use borrow.Author.Rules.{rules}
 use Rattle.bench_text.specs.Text.{lineText, endText}
-use Rattle.bench_text.proofs.Appending.{then, room-first, room_next}
+use Rattle.bench_text.proofs.Appending.{then, room-first, room-next}
 use Rattle.bench.specs.Listing.{malformedLine, malformedText}
 use Rattle.bench.proofs.Lengths.{malformed-length}
 use Rattle.bench.proofs.put_malformed.Statement.{statement}
@@ -20,7 +20,7 @@ put-malformed-spec =
     let p = c.before.before.before in
     let s = p.before.before.before.before in
     let wrote = rw p.before.malformed-line.ensures at p.put-line.ensures in
-    room_next (endText 0 0) wrote p.put-line.auto.0 (omega (arith, malformed-length, s.requires)))
+    room-next (endText 0 0) wrote p.put-line.auto.0 (omega (arith, malformed-length, s.requires)))
     (λ c. search rules)
     (λ c.
     let e = c.before.before in

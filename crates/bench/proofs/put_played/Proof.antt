@@ -3,7 +3,7 @@ use borrow.Author.Rules.{rules}
 use Rattle.tally.specs.Limits.{today}
 use Rattle.script.proofs.HeaderLines.{ranges}
 use Rattle.bench_play.specs.Bench.{start}
-use Rattle.bench_text.proofs.Appending.{then, room-first, room_next}
+use Rattle.bench_text.proofs.Appending.{then, room-first, room-next}
 use Rattle.bench.specs.Listing.{headerLine}
 use Rattle.bench.specs.InnerLines.{eventsFrom, restText}
 use Rattle.bench.proofs.Lengths.{played-length}
@@ -32,7 +32,7 @@ put-played-spec =
     let r = ranges x.h.n x.h.entry s.requires.1.1.0 in
     let most = played-length today x.h x.script.now x.p s.requires.1.1.0 s.requires.1.0 in
     let wrote = rw p.before.before.before.letter-of.ensures at p.put-header.ensures in
-    let room = room_next (restText today (start x.h) 0 (eventsFrom x.h.n x.script.now x.p)) wrote p.put-header.auto.0
+    let room = room-next (restText today (start x.h) 0 (eventsFrom x.h.n x.script.now x.p)) wrote p.put-header.auto.0
     (omega (arith, most, s.requires.1.1.1)) in
     (s.requires.0, (s.requires.1.0, (omega (arith, r.0), (r.1, room)))))
     (λ c. search rules)

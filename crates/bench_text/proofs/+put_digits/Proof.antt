@@ -7,7 +7,7 @@ use borrow.Fn.Kinds.{In}
 use borrow.Fn.PlainCycle.{Measures, is, falls, and}
 use Rattle.script.specs.Numbers.{digitZero}
 use Rattle.bench_text.specs.Text.{digits}
-use Rattle.bench_text.proofs.Appending.{then, room-first, room_next}
+use Rattle.bench_text.proofs.Appending.{then, room-first, room-next}
 use Rattle.bench_text.proofs.Digits.{few, many, lower}
 use Rattle.bench_text.proofs.put_digits.Reads as own
 use Rattle.bench_text.proofs.put_digits.Kinds as kinds
@@ -49,7 +49,7 @@ pub +put-digits-spec : {M : Type 1} → statement M
     let d = c.before.before.before in
     let s = d.before.before.before.before in
     let room = rw (many s.args.k s.args.n s.requires.1.1.0 d.before.before.if1.false) at s.requires.1.0 in
-    let left = room_next ((digitZero + s.args.n % 10) ∷ []) d.put-digits.ensures d.put-digits.auto.0 room in
+    let left = room-next ((digitZero + s.args.n % 10) ∷ []) d.put-digits.ensures d.put-digits.auto.0 room in
     omega (arith, left))
     (λ c. search rules)
     (λ c.

@@ -2,7 +2,7 @@ use mathlib.Core.List.{[], ◌∷◌}
 use native.Mathlib.Omega.{arith}
 use borrow.Author.Rules.{rules}
 use Rattle.bench_text.specs.Text.{shownText, fieldText}
-use Rattle.bench_text.proofs.Appending.{then, room-first, room_next}
+use Rattle.bench_text.proofs.Appending.{then, room-first, room-next}
 use Rattle.bench_text.proofs.put_field.Statement.{statement}
 use Rattle.bench_text.proofs.put_field.Tie as tie
 
@@ -15,6 +15,6 @@ put-field-spec =
     (λ c κs.
     let p = c.before.before.before in
     let s = p.before.before.before in
-    omega (arith, room_next (s.args.b ∷ []) p.put-shown.ensures p.put-shown.auto.0 s.requires))
+    omega (arith, room-next (s.args.b ∷ []) p.put-shown.ensures p.put-shown.auto.0 s.requires))
     (λ c. search rules)
     (λ c. then c.before.before.before.before.before.before.put-shown.ensures c.before.before.put_byte.ensures))

@@ -2,7 +2,7 @@ use borrow.Author.Rules.{rules}
 use Rattle.script.specs.Parts.{comma, newline}
 use Rattle.bench_text.specs.InnerText.{threeText}
 use Rattle.bench_text.specs.declared.Shown.{Shown}
-use Rattle.bench_text.proofs.Appending.{then, room-first, room_next}
+use Rattle.bench_text.proofs.Appending.{then, room-first, room-next}
 use Rattle.bench_text.proofs.Laws.{line-threes}
 use Rattle.bench_text.proofs.put_line.Statement.{statement}
 use Rattle.bench_text.proofs.put_line.Tie as tie
@@ -20,7 +20,7 @@ put-line-spec =
     let p = c.before.before.before in
     let s = p.before.before.before in
     let r = s.args.line in
-    room_next (threeText (Shown.Number r.number) r.sent r.decision newline) p.put_three.ensures p.put_three.auto.0
+    room-next (threeText (Shown.Number r.number) r.sent r.decision newline) p.put_three.ensures p.put_three.auto.0
     (rw (line-threes r) at s.requires))
     (λ c. search rules)
     (λ c.

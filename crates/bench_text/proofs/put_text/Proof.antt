@@ -3,7 +3,7 @@ use mathlib.Core.Path.{◌≡◌, refl}
 use borrow.Author.Rules.{rules}
 use lib.ListN.{length, take, length-set}
 use Rattle.bench_text.specs.InnerText.{Puts}
-use Rattle.bench_text.proofs.Appending.{puts_none, puts-more, puts-all}
+use Rattle.bench_text.proofs.Appending.{puts-none, puts-more, puts-all}
 use Rattle.bench_text.proofs.put_text.Statement.{statement}
 use Rattle.bench_text.proofs.put_text.Tie as tie
 
@@ -14,7 +14,7 @@ abbrev decreases-loop : tie.decreases-loop
 decreases-loop out₀ at s i₀ out i = length s - i
 
 loop-holds : tie.Need-loop-init invariant-loop decreases-loop
-loop-holds c = (search rules, refl, puts_none _ c.args.s.now _)
+loop-holds c = (search rules, refl, puts-none _ c.args.s.now _)
 
 loop-again : tie.Need-loop-preserved invariant-loop decreases-loop
 loop-again c =

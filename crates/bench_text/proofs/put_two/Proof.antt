@@ -2,7 +2,7 @@ use borrow.Author.Rules.{rules}
 use Rattle.script.specs.Parts.{comma}
 use Rattle.bench_text.specs.Text.{fieldText}
 use Rattle.bench_text.specs.InnerText.{twoText}
-use Rattle.bench_text.proofs.Appending.{then, room-first, room_next}
+use Rattle.bench_text.proofs.Appending.{then, room-first, room-next}
 use Rattle.bench_text.proofs.put_two.Statement.{statement}
 use Rattle.bench_text.proofs.put_two.Tie as tie
 
@@ -19,6 +19,6 @@ put-two-spec =
     let p = c.before.before.before in
     let s = p.before.before.before in
     let x = s.args in
-    room_next (fieldText x.b x.stop) p.put-field.ensures p.put-field.auto.0 s.requires)
+    room-next (fieldText x.b x.stop) p.put-field.ensures p.put-field.auto.0 s.requires)
     (λ c. search rules)
     (λ c. then c.before.before.before.before.before.before.put-field.ensures c.before.before.put-field2.ensures))

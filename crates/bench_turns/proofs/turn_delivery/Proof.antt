@@ -1,6 +1,6 @@
 use borrow.Author.Tests.{le-leb, lt-leb}
 use borrow.Author.Rules.{rules}
-use Rattle.consensus.specs.Conditions.{first_of}
+use Rattle.consensus.specs.Conditions.{firstOf}
 use Rattle.consensus.specs.Methods.{unless}
 use Rattle.bench_play.specs.Play.{deliveryConditions}
 use Rattle.bench_turns.specs.InnerTurns.{turnDelivery}
@@ -8,7 +8,7 @@ use Rattle.bench_turns.proofs.turn_delivery.Statement.{statement}
 use Rattle.bench_turns.proofs.turn_delivery.Tie as tie
 
 pub turn-delivery-spec : {M : Type 1} → statement M
-unfolding turnDelivery deliveryConditions unless first_of
+unfolding turnDelivery deliveryConditions unless firstOf
 turn-delivery-spec =
     tie.close
     (tie.spec

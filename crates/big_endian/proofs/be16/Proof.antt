@@ -1,12 +1,12 @@
 use native.Mathlib.Nat.{add-zero}
 use native.Mathlib.Omega.{arith}
-use Rattle.formats.specs.Numbers.{num_at}
+use Rattle.formats.specs.Numbers.{numAt}
 use borrow.Author.Rules.{rules}
 use Rattle.big_endian.proofs.be16.Statement.{statement}
 use Rattle.big_endian.proofs.be16.Tie as tie
 
 pub be16-spec : {M : Type 1} → statement M
-unfolding num_at
+unfolding numAt
 be16-spec =
     tie.close
     (tie.spec

@@ -1,12 +1,12 @@
 use native.Mathlib.Nat.{add-zero, add_assoc}
-use Rattle.formats.specs.Numbers.{num_at}
+use Rattle.formats.specs.Numbers.{numAt}
 use native.Mathlib.Omega.{arith}
 use borrow.Author.Rules.{rules}
 use Rattle.big_endian.proofs.be32.Statement.{statement}
 use Rattle.big_endian.proofs.be32.Tie as tie
 
 pub be32-spec : {M : Type 1} → statement M
-unfolding num_at
+unfolding numAt
 be32-spec =
     tie.close
     (tie.spec

@@ -1,13 +1,13 @@
 use native.Mathlib.Numerals.{towards_suc}
 use lib.ListN.{length-set}
-use Rattle.formats.specs.Numbers.{bytes_of}
+use Rattle.formats.specs.Numbers.{bytesOf}
 use native.Mathlib.Omega.{arith}
 use borrow.Author.Rules.{rules}
 use Rattle.big_endian.proofs.put32.Statement.{statement}
 use Rattle.big_endian.proofs.put32.Tie as tie
 
 pub put32-spec : {M : Type 1} → statement M
-unfolding bytes_of
+unfolding bytesOf
 put32-spec =
     tie.close
     (tie.spec

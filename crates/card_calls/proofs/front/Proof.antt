@@ -1,11 +1,11 @@
 use borrow.Author.Rules.{rules}
-use Rattle.consensus.specs.Conditions.{first_of}
+use Rattle.consensus.specs.Conditions.{firstOf}
 use Rattle.cards.specs.InnerSteps.{frontConditions, front}
 use Rattle.card_calls.proofs.front.Statement.{statement}
 use Rattle.card_calls.proofs.front.Tie as tie
 
 pub front-spec : {M : Type 1} → statement M
-unfolding front frontConditions first_of
+unfolding front frontConditions firstOf
 front-spec =
     tie.close
     (tie.spec

@@ -1,4 +1,4 @@
--- `card_calls::on_row` meets its contract: a walk of its MIR, by hand. `place` is asked for the row. Past the end, `refused` answers. Else the borrow of the
+-- `card_calls::on-row` meets its contract: a walk of its MIR, by hand. `place` is asked for the row. Past the end, `refused` answers. Else the borrow of the
 -- rows is opened, the row is copied out, `step_row` is called on the copy, its row is stored in the row's place, and the borrow is closed.
 -- Assumes nothing.
 use mathlib.Core.Path.{◌≡◌, refl, sym, ap, subst}
@@ -45,8 +45,8 @@ use Rattle.cards.specs.declared.CardCall.{CardCall}
 use Rattle.cards.specs.declared.CardRow.{CardRow}
 use Rattle.cards.specs.declared.RowAnswer.{RowAnswer}
 use Rattle.cards.specs.declared.Told.{Told}
-use Rattle.cards.specs.Rows.{no_row}
-use Rattle.cards.specs.InnerSteps.{front, place_of, tells, step_of, cardTold, cardRows}
+use Rattle.cards.specs.Rows.{noRow}
+use Rattle.cards.specs.InnerSteps.{front, placeOf, tells, stepOf, cardTold, cardRows}
 use Rattle.cards.specs.contracts.CardCall as K
 use Rattle.cards.proofs.CardCall.TheLaws as K'
 use Rattle.cards.specs.contracts.CardRow as R
@@ -68,7 +68,7 @@ use Rattle.card_calls.specs.contracts.step_row as step_row
 use Rattle.card_calls.proofs.step_row.Symbol as step-row-def
 use Rattle.card_calls.proofs.step_row.Symbol.{name as #step-row}
 use Rattle.card_calls.proofs.step_row.Met as step-row-thm
-use Rattle.card_calls.specs.contracts.row_of as row_of
+use Rattle.card_calls.specs.contracts.row_of as rowOf
 use Rattle.card_calls.proofs.row_of.Symbol as row-of-def
 use Rattle.card_calls.proofs.row_of.Symbol.{name as #row-of}
 use Rattle.card_calls.proofs.row_of.Met as row-of-thm
@@ -109,13 +109,13 @@ val-c = LL.val K.the_type K'.the_laws
 abbrev val : CardRow → Val
 val = LL.val R.the_type R'.the_laws
 
-beyond : (c : CardCall) (l : List CardRow) (k : ℕ) (t : Told) → k ≡ place_of c (length l) → length l ≤ k → t ≡ tells (front c (length l))
+beyond : (c : CardCall) (l : List CardRow) (k : ℕ) (t : Told) → k ≡ placeOf c (length l) → length l ≤ k → t ≡ tells (front c (length l))
     → (t ≡ cardTold today c l) × (l ≡ cardRows today c l)
 unfolding cardTold cardRows
 beyond c l k t ek h e = (rw (← ek, le-leb (length l) k h) e, rw (← ek, le-leb (length l) k h))
 
-within : (c : CardCall) (l : List CardRow) (k : ℕ) (y : CardRow) (t : Told) (r : RowAnswer) → k ≡ place_of c (length l) → k < length l
-    → r ≡ step_of today c (get_or l k no_row) → y ≡ r.row → t ≡ r.told
+within : (c : CardCall) (l : List CardRow) (k : ℕ) (y : CardRow) (t : Told) (r : RowAnswer) → k ≡ placeOf c (length l) → k < length l
+    → r ≡ stepOf today c (get_or l k noRow) → y ≡ r.row → t ≡ r.told
     → (t ≡ cardTold today c l) × (set l k y ≡ cardRows today c l)
 unfolding cardTold cardRows
 within c l k y t r ek h e e₂ e₃ = (rw (← ek, lt-leb (length l) k h, e₃, e), rw (← ek, lt-leb (length l) k h, e₂, e))
@@ -176,7 +176,7 @@ module _ {M : Type 1} {𝓤 : Ura M} (𝓛 : Logic 𝓤) (mem : Memory → SProp
   module _ (C : Calls 𝓤 H) (Λ : Loops 𝓤 H) (fm : FmC 𝓤 H 𝓛.laws C) (known-place : Known 𝓛 C #place place.ended (place.clauses 𝓛 mem run))
       (known-refuse : Known 𝓛 C #refused refused.ended (refused.clauses 𝓛 mem run))
       (Known-step : Known 𝓛 C #step-row step_row.ended (step_row.clauses 𝓛 mem run))
-      (known-row : Known 𝓛 C #row-of row_of.ended (row_of.clauses 𝓛 mem run))
+      (known-row : Known 𝓛 C #row-of rowOf.ended (rowOf.clauses 𝓛 mem run))
       (known-told : Known 𝓛 C #told-of told_of.ended (told_of.clauses 𝓛 mem run)) where
     walk : Is K.the_row c (vc ∷ []) → Room R.the_row (length ys)
         → ent 𝓤 (on_entry 𝓛 on.signature (κ₀, tt) (q₀, tt) a vals) (WpFn 𝓤 H C Λ code.function (vc ∷ s ∷ []) Post)
@@ -196,7 +196,7 @@ module _ {M : Type 1} {𝓤 : Ura M} (𝓛 : Logic 𝓤) (mem : Memory → SProp
         gives ! K.the_row (LL.makes K.the_type K'.the_plain 𝓛) c (vc ∷ []) isc $
         asks-plain ! fm place.ended (place.clauses 𝓛 mem run) known-place
         ((tt, tt, tt, (c, (length ys, tt)), (vc ∷ [], (vint w64 (length ys) ∷ [], tt))), tt) refl refl refl
-        (λ k. k ≡ place_of c (length ys)) (λ k ws. refl) (arg ! 23 refl (arg ! 13 refl (no_more !))) (λ v₀ k ek isk.
+        (λ k. k ≡ placeOf c (length ys)) (λ k ws. refl) (arg ! 23 refl (arg ! 13 refl (no_more !))) (λ v₀ k ek isk.
         kept ! 18 refl ((uint_Lawful 𝓛 w64).typed k _ isk).0 $
         rewrite ! 18 (λ (us : List Val). ‵ (fat full_share (ty_int w64) l₃ 0 (only us))) (uint_Tells w64 k (v₀ ∷ []) isk) refl $
         assigns ! (of_opd ! (load ! (from ! (fld ! refl (stop !))) (look_in ! 20 (sub ! 1 refl (whole !))))) (from ! (stop !))
@@ -222,7 +222,7 @@ module _ {M : Type 1} {𝓤 : Ura M} (𝓛 : Logic 𝓤) (mem : Memory → SProp
         let below : k < length ys = nleb→lt (length ys) k inside in
         let far : k * 200 < 2 ^ 64 = omega (arith, room.1) in
         let E = placed (code.function).locals (l₀ ∷ l₁ ∷ l₂ ∷ l₃ ∷ l₄ ∷ l₅ ∷ l₆ ∷ l₇ ∷ l₈ ∷ l₉ ∷ l₁₀ ∷ l₁₁ ∷ []) in
-        let old = get_or ys k no_row in
+        let old = get_or ys k noRow in
         skips ! $ exec ! C Λ E (after (after (after (after (after (code.function).body))))) (at_ret E Post) $
         assigns ! (bin ! (load ! (from ! (stop !)) (look ! 18 refl)) (lit ! tt) (record { fits = far })) (from ! (stop !))
         (store ! 12 refl (tt, record { fits = far })) $
@@ -231,7 +231,7 @@ module _ {M : Type 1} {𝓤 : Ura M} (𝓛 : Logic 𝓤) (mem : Memory → SProp
         rewrite ! 6 (λ (p : ℕ). ‵ (fat full_share ty_ptr l₉ 0 (vptr b p))) (sym (place_is 200 o k)) refl $
         move ! (1 ∷ []) $ fsplit ! $ move ! (1 ∷ []) $ fsplit ! $ move ! (0 ∷ 1 ∷ 3 ∷ []) $
         opens_slice ! tt R.the_row ys b o $ elem_out ! R.the_row (Is R.the_row) (shows 𝓛 R.the_row) (LL.vals R.the_type R'.the_laws)
-        (LL.tells R.the_type R'.the_laws) full_share ys k no_row b o below (λ g. move ! (1 ∷ []) $ drop ! $
+        (LL.tells R.the_type R'.the_laws) full_share ys k noRow b o below (λ g. move ! (1 ∷ []) $ drop ! $
         -- [rows[k]; the others; the open borrow; obs; auth; rows' fact; _11 (6); _10 (8); _9 (10); …; _0 (28)]
         assigns ! (of_opd ! (load ! (from ! (hop ! (look ! 10 refl) (stop !))) (look_raw ! 0 refl))) (from ! (stop !))
         (init ! 8 refl ((LL.lawful R.the_type R'.the_laws 𝓛).typed old _ g).0) $
@@ -241,10 +241,10 @@ module _ {M : Type 1} {𝓤 : Ura M} (𝓛 : Logic 𝓤) (mem : Memory → SProp
         gives ! K.the_row (LL.makes K.the_type K'.the_plain 𝓛) c (vc ∷ []) isc $
         asks-plain ! fm step_row.ended (step_row.clauses 𝓛 mem run) Known-step
         ((tt, tt, tt, (c, (old, tt)), (vc ∷ [], (val old ∷ [], tt))), tt) refl refl refl
-        (λ r. r ≡ step_of today c old) (λ r ws. refl) (arg ! 27 refl (arg ! 21 refl (no_more !))) (λ v r e is.
+        (λ r. r ≡ stepOf today c old) (λ r ws. refl) (arg ! 27 refl (arg ! 21 refl (no_more !))) (λ v r e is.
         kept ! 18 refl ((LL.lawful S.the_type S'.the_laws 𝓛).typed r _ is).0 $
         nothing ! $ gives ! S.the_row (LL.makes S.the_type S'.the_plain 𝓛) r (v ∷ []) is $
-        asks-plain ! fm row_of.ended (row_of.clauses 𝓛 mem run) known-row ((tt, tt, tt, (r, tt), (v ∷ [], tt)), tt) refl refl refl
+        asks-plain ! fm rowOf.ended (rowOf.clauses 𝓛 mem run) known-row ((tt, tt, tt, (r, tt), (v ∷ [], tt)), tt) refl refl refl
         (λ y. y ≡ r.row) (λ y ws. refl) (arg ! 19 refl (no_more !)) (λ v₂ y e₂ is₂.
         land ! (from ! (stop !)) (store ! 8 refl ((LL.lawful R.the_type R'.the_laws 𝓛).typed y _ is₂).0) $
         assigns ! (bin ! (load ! (from ! (stop !)) (look ! 22 refl)) (lit ! tt) (record { fits = far })) (from ! (stop !))
@@ -280,6 +280,6 @@ on-row-spec 𝓤 𝓛 𝓜 𝓡 =
     (knows 𝓛 𝓜 𝓡 code.env place.ended (place.clauses 𝓛) #place place-def.routine code.calls-card-calls::place (place-thm.met 𝓤 𝓛 𝓜 𝓡))
     (knows 𝓛 𝓜 𝓡 code.env refused.ended (refused.clauses 𝓛) #refused refused-def.routine code.calls-card-calls::refused (refused-thm.met 𝓤 𝓛 𝓜 𝓡))
     (knows 𝓛 𝓜 𝓡 code.env step_row.ended (step_row.clauses 𝓛) #step-row step-row-def.routine code.calls-card-calls::step-row (step-row-thm.met 𝓤 𝓛 𝓜 𝓡))
-    (knows 𝓛 𝓜 𝓡 code.env row_of.ended (row_of.clauses 𝓛) #row-of row-of-def.routine code.calls-card-calls::row-of (row-of-thm.met 𝓤 𝓛 𝓜 𝓡))
+    (knows 𝓛 𝓜 𝓡 code.env rowOf.ended (rowOf.clauses 𝓛) #row-of row-of-def.routine code.calls-card-calls::row-of (row-of-thm.met 𝓤 𝓛 𝓜 𝓡))
     (knows 𝓛 𝓜 𝓡 code.env told_of.ended (told_of.clauses 𝓛) #told-of told-of-def.routine code.calls-card-calls::told-of (told-of-thm.met 𝓤 𝓛 𝓜 𝓡))
     are.0 are.1.0.0.1)

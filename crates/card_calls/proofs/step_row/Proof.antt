@@ -1,11 +1,11 @@
 use borrow.Author.Rules.{rules}
-use Rattle.consensus.specs.Conditions.{first_of}
-use Rattle.cards.specs.InnerSteps.{stepConditions, stepAnswer, unlessRow, step_of}
+use Rattle.consensus.specs.Conditions.{firstOf}
+use Rattle.cards.specs.InnerSteps.{stepConditions, stepAnswer, unlessRow, stepOf}
 use Rattle.card_calls.proofs.step_row.Statement.{statement}
 use Rattle.card_calls.proofs.step_row.Tie as tie
 
 pub step-row-spec : {M : Type 1} → statement M
-unfolding step_of stepConditions stepAnswer unlessRow first_of
+unfolding stepOf stepConditions stepAnswer unlessRow firstOf
 step-row-spec =
     tie.close
     (tie.spec

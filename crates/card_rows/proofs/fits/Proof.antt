@@ -6,7 +6,7 @@ use borrow.Author.Rules.{rules}
 use borrow.Author.Tests.{ltb-true, not-true, not-false}
 use Rattle.tally.specs.Limits.{senders}
 use Rattle.contents.specs.Images.{fits}
-use Rattle.contents.proofs.Tests.{both_true}
+use Rattle.contents.proofs.Tests.{both-true}
 use Rattle.cards.specs.Rows.{marksFit}
 use Rattle.card_rows.proofs.fits.Statement.{statement}
 use Rattle.card_rows.proofs.fits.Tie as tie
@@ -16,7 +16,7 @@ marks : (c : tie.Else1) → (marksFit c.before.before.before.before.before.args.
     (marksFit c.before.before.before.before.before.args.r.seconds ≡ true)
 marks c =
     let both : (c.before.before.marks-fit.result && c.before.marks-fit2.result) ≡ true = not-false _ c.if1.false in
-    both_true _ _ (rw (c.before.marks-fit2.ensures, c.before.before.marks-fit.ensures) at both)
+    both-true _ _ (rw (c.before.marks-fit2.ensures, c.before.before.marks-fit.ensures) at both)
 
 checks-small : (c : tie.Else1) → c.before.before.before.before.before.args.r.checks.marks < 2 ^ senders
 checks-small c = ltb-true _ _ (marks c).0

@@ -7,7 +7,7 @@ use Rattle.tally.proofs.Bounds.{sane-today}
 use Rattle.formats.specs.Logs.{logFormat}
 use Rattle.formats.proofs.LogFormat.{lawful}
 use Rattle.calls.specs.InnerFields.{logHead, logNarrow}
-use Rattle.calls.proofs.Narrow.{log-small, too_large}
+use Rattle.calls.proofs.Narrow.{log-small, too-large}
 use Rattle.cards.specs.Rows.{numbersOf}
 use Rattle.card_rows.proofs.read_log.Statement.{statement}
 use Rattle.card_rows.proofs.read_log.Tie as tie
@@ -16,7 +16,7 @@ returns : tie.Need-returns
 unfolding logNarrow
 returns c =
     rw
-    (too_large (logFormat today) (lawful today sane-today) (numbersOf c.before.before.args.f) logHead refl
+    (too-large (logFormat today) (lawful today sane-today) (numbersOf c.before.before.args.f) logHead refl
     (sym c.before.narrow.ensures ∙ not-true _ c.if1.true))
 
 cast-engine-of : tie.Need-overflow-cast-engine-of

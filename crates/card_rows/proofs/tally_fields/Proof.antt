@@ -7,7 +7,7 @@ use lib.ListN.{length, take, length-set}
 use borrow.Author.Rules.{rules}
 use Rattle.tally.specs.Limits.{senders}
 use Rattle.formats.specs.Images.{cellCode}
-use Rattle.cards.proofs.Steps.{one_more, all_done, unmapped}
+use Rattle.cards.proofs.Steps.{one-more, all-done, unmapped}
 use Rattle.card_rows.proofs.tally_fields.Statement.{statement}
 use Rattle.card_rows.proofs.tally_fields.Tie as tie
 
@@ -24,7 +24,7 @@ loop-again c =
     let t = c.before.before.before.before.args.t1 in (
       omega arith,
       simp length-set a.invariant.1,
-      one_more cellCode a.i t.cells a.estimates _ c.code_of_lem.result (search (rules, unmapped)) (search rules)
+      one-more cellCode a.i t.cells a.estimates _ c.code_of_lem.result (search (rules, unmapped)) (search rules)
           c.code_of_lem.ensures a.invariant.2,
     )
 
@@ -33,7 +33,7 @@ returns c =
     let a = c.before.before.loop in
     rw (
       c.wide16.ensures,
-      all_done cellCode a.i senders c.before.before.before.args.t1.cells a.estimates (omega arith) (search (rules, unmapped))
+      all-done cellCode a.i senders c.before.before.before.args.t1.cells a.estimates (omega arith) (search (rules, unmapped))
           a.invariant.1 a.invariant.2,
     )
 

@@ -6,13 +6,13 @@ use native.Mathlib.Omega.{arith}
 use lib.ListN.{length, take, length-set}
 use borrow.Author.Rules.{rules}
 use Rattle.tally.specs.Limits.{senders}
-use Rattle.formats.specs.Images.{cell_of}
-use Rattle.cards.proofs.Steps.{one_more, all_done}
+use Rattle.formats.specs.Images.{cellOf}
+use Rattle.cards.proofs.Steps.{one-more, all-done}
 use Rattle.card_rows.proofs.tally_of.Statement.{statement}
 use Rattle.card_rows.proofs.tally_of.Tie as tie
 
 abbrev invariant-loop : tie.invariant-loop
-invariant-loop f cells₀ i₀ cells i = (i ≤ senders) × (length cells ≡ senders) × (take i cells ≡ map cell_of (take i f.estimates))
+invariant-loop f cells₀ i₀ cells i = (i ≤ senders) × (length cells ≡ senders) × (take i cells ≡ map cellOf (take i f.estimates))
 
 abbrev decreases-loop : tie.decreases-loop
 decreases-loop f cells₀ i₀ cells i = senders - i
@@ -23,7 +23,7 @@ loop-again c =
     let f = c.before.before.before.before.args.t1 in (
       omega arith,
       simp length-set a.invariant.1,
-      one_more cell_of a.i f.estimates a.cells 0 (record { estimate = c.estimate-of.result }) (search rules) (search rules)
+      one-more cellOf a.i f.estimates a.cells 0 (record { estimate = c.estimate-of.result }) (search rules) (search rules)
           (ap (λ x. record { estimate = x }) c.estimate-of.ensures) a.invariant.2,
     )
 
@@ -31,7 +31,7 @@ returns : tie.Need-returns invariant-loop decreases-loop
 returns c =
     let a = c.before.loop in
     rw
-    (all_done cell_of a.i senders c.before.before.args.t1.estimates a.cells (omega arith) (search rules) a.invariant.1 a.invariant.2)
+    (all-done cellOf a.i senders c.before.before.args.t1.estimates a.cells (omega arith) (search rules) a.invariant.1 a.invariant.2)
 
 pub tally-of-spec : {M : Type 1} → statement M
 tally-of-spec =

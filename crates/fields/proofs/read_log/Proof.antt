@@ -4,7 +4,7 @@ use borrow.Author.Tests.{ne_eqb}
 use Rattle.tally.specs.Limits.{today}
 use Rattle.tally.proofs.Bounds.{sane-today}
 use Rattle.formats.specs.Formats.{wrote}
-use Rattle.formats.specs.Logs.{logFormat, logReading, read_log}
+use Rattle.formats.specs.Logs.{logFormat, logReading, readLog}
 use Rattle.formats.proofs.LogFormat.{lawful}
 use Rattle.calls.specs.Fields.{readLogCall}
 use Rattle.calls.proofs.FieldTrips.{read-accepted, read-refused}
@@ -12,7 +12,7 @@ use Rattle.fields.proofs.read_log.Statement.{statement}
 use Rattle.fields.proofs.read_log.Tie as tie
 
 returns-2 : tie.Need-returns-2
-unfolding read_log readLogCall
+unfolding readLog readLogCall
 returns-2 c =
     let b = c.before.before.before.before.before.before in
     let start = c.before.before.before.before.before.before.before.before.before.before.before.before.args in
@@ -23,7 +23,7 @@ returns-2 c =
     b.before.before.before.if1.false accepted))
 
 returns-3 : tie.Need-returns-3
-unfolding read_log readLogCall
+unfolding readLog readLogCall
 returns-3 c =
     let b = c.before.before.before.before in
     let start = c.before.before.before.before.before.before.before.before.args in
@@ -32,7 +32,7 @@ returns-3 c =
     b.before.if1.false refused))
 
 pub read-log-spec : {M : Type 1} → statement M
-unfolding read_log readLogCall
+unfolding readLog readLogCall
 read-log-spec =
     tie.close
     (tie.spec

@@ -1,12 +1,12 @@
 use mathlib.Core.Path.{ap}
-use Rattle.tally.specs.Refusal.{number_of}
+use Rattle.tally.specs.Refusal.{numberOf}
 use Rattle.formats.specs.Formats.{wrote}
 use borrow.Author.Rules.{rules}
 use Rattle.fields.proofs.refuse.Statement.{statement}
 use Rattle.fields.proofs.refuse.Tie as tie
 
 returns : tie.Need-returns
-returns c = rw c.number.ensures (ap (wrote (number_of c.before.before.before.before.before.before.args.why))
+returns c = rw c.number.ensures (ap (wrote (numberOf c.before.before.before.before.before.before.args.why))
     c.before.before.before.clear.ensures)
 
 pub refuse-spec : {M : Type 1} → statement M

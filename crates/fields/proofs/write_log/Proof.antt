@@ -7,7 +7,7 @@ use Rattle.formats.specs.Logs.{logOf, logFormat, writeLog}
 use Rattle.formats.proofs.LogFormat.{lawful}
 use Rattle.calls.specs.Fields.{writeLogCall}
 use Rattle.calls.specs.InnerFields.{logHead, logNarrow}
-use Rattle.calls.proofs.Narrow.{log-small, too_large}
+use Rattle.calls.proofs.Narrow.{log-small, too-large}
 use Rattle.calls.proofs.FieldTrips.{put-checked}
 use borrow.Author.Rules.{rules}
 use Rattle.fields.proofs.write_log.Statement.{statement}
@@ -18,7 +18,7 @@ unfolding logNarrow writeLog writeLogCall
 returns-3 c =
     let fs = c.before.before.before.before.before.before.before.args.fields.now in
     let wide = sym c.before.before.log-narrow.ensures ∙ not-true _ c.before.if3.true in
-    let refused = too_large (logFormat today) (lawful today sane-today) fs logHead c.before.before.before.before.if1.false wide in
+    let refused = too-large (logFormat today) (lawful today sane-today) fs logHead c.before.before.before.before.if1.false wide in
     rw (eq-eqb _ _ c.before.before.before.before.if1.false, eq-eqb _ _ c.before.before.before.if2.false, refused, c.number3.ensures)
 
 returns-4 : tie.Need-returns-4

@@ -7,7 +7,7 @@ use Rattle.formats.specs.Messages.{messageFormat}
 use Rattle.formats.proofs.MessageFormat.{lawful}
 use Rattle.calls.specs.Fields.{writeMessageCall}
 use Rattle.calls.specs.InnerFields.{messageHead, messageNarrow}
-use Rattle.calls.proofs.Narrow.{message-small, too_large}
+use Rattle.calls.proofs.Narrow.{message-small, too-large}
 use borrow.Author.Rules.{rules}
 use Rattle.fields.proofs.write_message.Statement.{statement}
 use Rattle.fields.proofs.write_message.Tie as tie
@@ -17,7 +17,7 @@ unfolding messageNarrow writeMessageCall
 returns-3 c =
     let fs = c.before.before.before.before.before.before.before.before.before.before.args.fields.now in
     let wide = sym c.before.before.before.before.before.message-narrow.ensures ∙ not-true _ c.before.before.before.before.if3.true in
-    let refused = too_large (messageFormat today) (lawful today sane-today) fs messageHead
+    let refused = too-large (messageFormat today) (lawful today sane-today) fs messageHead
     c.before.before.before.before.before.before.before.if1.false wide in
     rw (
       eq-eqb _ _ c.before.before.before.before.before.before.before.if1.false,

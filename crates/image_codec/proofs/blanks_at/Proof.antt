@@ -7,13 +7,13 @@ use Rattle.tally.specs.Limits.{senders}
 use Rattle.contents.specs.Estimates.{isBlank}
 use Rattle.contents.specs.Images.{every}
 use Rattle.formats.specs.Codes.{estimateOf}
-use Rattle.formats.specs.Numbers.{num_at}
+use Rattle.formats.specs.Numbers.{numAt}
 use Rattle.image_codec.proofs.blanks_at.Statement.{statement}
 use Rattle.image_codec.proofs.blanks_at.Tie as tie
 
 abbrev invariant-loop : tie.invariant-loop
 invariant-loop s at from₀ ok₀ k₀ from ok k = (k ≤ senders) × ((from ≡ at + 4 * k) ×
-    (ok ≡ every k (λ u. isBlank (estimateOf (num_at s (at + 4 * u) 4)))))
+    (ok ≡ every k (λ u. isBlank (estimateOf (numAt s (at + 4 * u) 4)))))
 
 abbrev decreases-loop : tie.decreases-loop
 decreases-loop s at from₀ ok₀ k₀ from ok k = senders - k

@@ -9,17 +9,17 @@ use lib.Seq.{sets}
 use borrow.Author.Rules.{rules}
 use Rattle.tally.specs.Limits.{senders}
 use Rattle.tally.specs.declared.Tally.{Tally}
-use Rattle.formats.specs.Images.{cell_of, cellWidths}
+use Rattle.formats.specs.Images.{cellOf, cellWidths}
 use Rattle.formats.specs.InnerImages.{heldFrom}
 use Rattle.formats.specs.Numbers.{unpack}
 use Rattle.formats.proofs.Marked.{held-step}
-use Rattle.formats.proofs.Places.{held_at}
+use Rattle.formats.proofs.Places.{held-at}
 use Rattle.image_codec.proofs.cells_at.Statement.{statement}
 use Rattle.image_codec.proofs.cells_at.Tie as tie
 
 abbrev invariant-loop : tie.invariant-loop
 invariant-loop s at marks cells₀ from₀ k₀ cells from k =
-    let t : Tally = record { marks = marks; cells = map cell_of (unpack at cellWidths s) } in
+    let t : Tally = record { marks = marks; cells = map cellOf (unpack at cellWidths s) } in
     (k ≤ senders) × ((from ≡ at + 4 * k) × ((length cells ≡ senders) × (sets cells k (heldFrom t k (senders - k)) ≡ heldFrom t 0 senders)))
 
 abbrev decreases-loop : tie.decreases-loop
@@ -31,8 +31,8 @@ loop-again c =
     let l = x.before.loop in
     let args = x.before.before.before.args in
     let step = rw (
-      held-step (record { marks = args.marks; cells = map cell_of (unpack args.at cellWidths args.s.now) }) l.k x.loop-test.true,
-      held_at args.marks args.at l.k args.s.now x.loop-test.true,
+      held-step (record { marks = args.marks; cells = map cellOf (unpack args.at cellWidths args.s.now) }) l.k x.loop-test.true,
+      held-at args.marks args.at l.k args.s.now x.loop-test.true,
       ← l.invariant.1.0,
       ← c.before.is-marked.ensures,
       ← c.held_at.ensures,

@@ -4,7 +4,7 @@ use Rattle.tally.specs.Limits.{today}
 use Rattle.tally.specs.Tally.{noMarks}
 use Rattle.formats.specs.Images.{imageFormat, imageBytes, withTallies}
 use Rattle.formats.proofs.ImageFormat.{image-stored}
-use Rattle.formats.proofs.Steps.{stored_other, stored-contents}
+use Rattle.formats.proofs.Steps.{stored-other, stored-contents}
 use Rattle.image_codec.proofs.store_unmarked.Statement.{statement}
 use Rattle.image_codec.proofs.store_unmarked.Tie as tie
 
@@ -20,4 +20,4 @@ returns c =
 
 pub store-unmarked-spec : {M : Type 1} → statement M
 store-unmarked-spec = tie.close (tie.spec (λ c κs. search rules) (λ c κs. search rules) (λ c κs. search rules) (λ c. search rules) returns
-    (λ c. sym (stored_other (imageFormat today) _ _ c.if1.false)))
+    (λ c. sym (stored-other (imageFormat today) _ _ c.if1.false)))

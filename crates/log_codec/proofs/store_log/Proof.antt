@@ -1,7 +1,7 @@
 use mathlib.Core.Path.{refl, sym, ◌∙◌}
 use Rattle.tally.specs.Limits.{today}
 use Rattle.formats.specs.Logs.{logFormat}
-use Rattle.formats.proofs.Steps.{packed, stored_other, stored-contents}
+use Rattle.formats.proofs.Steps.{packed, stored-other, stored-contents}
 use borrow.Author.Rules.{rules}
 use Rattle.log_codec.proofs.store_log.Statement.{statement}
 use Rattle.log_codec.proofs.store_log.Tie as tie
@@ -15,4 +15,4 @@ returns c =
     ∙ sym (stored-contents (logFormat today) start.out.now start.log size)
 
 pub store-log-spec : {M : Type 1} → statement M
-store-log-spec = tie.close (tie.spec (λ c κs. search rules) (λ c. search rules) returns (λ c. sym (stored_other (logFormat today) _ _ c.if1.false)))
+store-log-spec = tie.close (tie.spec (λ c κs. search rules) (λ c. search rules) returns (λ c. sym (stored-other (logFormat today) _ _ c.if1.false)))

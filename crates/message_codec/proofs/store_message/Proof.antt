@@ -1,7 +1,7 @@
 use mathlib.Core.Path.{refl, sym, ◌∙◌}
 use Rattle.tally.specs.Limits.{today}
 use Rattle.formats.specs.Messages.{messageFormat}
-use Rattle.formats.proofs.Steps.{packed, stored_other, stored-contents}
+use Rattle.formats.proofs.Steps.{packed, stored-other, stored-contents}
 use borrow.Author.Rules.{rules}
 use Rattle.message_codec.proofs.store_message.Statement.{statement}
 use Rattle.message_codec.proofs.store_message.Tie as tie
@@ -16,4 +16,4 @@ returns c =
 
 pub store-message-spec : {M : Type 1} → statement M
 store-message-spec =
-    tie.close (tie.spec (λ c κs. search rules) (λ c. search rules) returns (λ c. sym (stored_other (messageFormat today) _ _ c.if1.false)))
+    tie.close (tie.spec (λ c κs. search rules) (λ c. search rules) returns (λ c. sym (stored-other (messageFormat today) _ _ c.if1.false)))

@@ -1,4 +1,4 @@
-use Rattle.tally.specs.Refusal.{number_of}
+use Rattle.tally.specs.Refusal.{numberOf}
 use Rattle.tally.specs.declared.Refusal.TheVariants.{Length, Message}
 use mathlib.Core.Path.{refl, sym, ap, ◌∙◌}
 use lib.ListN.{length}
@@ -18,7 +18,7 @@ returns c =
     let cleared-out = c.before.before.before.clear.ensures in
     let bs = c.before.before.before.before.before.before.args.out.now in
     let long = ap length cleared-out ∙ length-cleared today bs in
-    rw (ne_eqb _ _ (λ e. c.if1.true (long ∙ e))) (ap (wrote (number_of Length)) cleared-out)
+    rw (ne_eqb _ _ (λ e. c.if1.true (long ∙ e))) (ap (wrote (numberOf Length)) cleared-out)
 
 returns-2 : tie.Need-returns-2
 unfolding writeMessage
@@ -27,7 +27,7 @@ returns-2 c =
     let bs = c.before.before.before.before.before.before.before.before.args.out.now in
     let long = ap length cleared-out ∙ length-cleared today bs in
     rw (eq-eqb _ _ (sym long ∙ c.before.before.if1.false), sym c.before.well-formed-2.ensures ∙ not-true _ c.if2.true)
-    (ap (wrote (number_of Message)) cleared-out)
+    (ap (wrote (numberOf Message)) cleared-out)
 
 returns-3 : tie.Need-returns-3
 unfolding writeMessage

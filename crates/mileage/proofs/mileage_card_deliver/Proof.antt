@@ -1,5 +1,5 @@
 -- `mileage::mileage_card_deliver` meets its contract: a walk of its MIR, by hand. `deliver_call` is asked with the numbers, the message and the length of the
--- output buffer; `on_row` is given its answer and the rows; `tell` is given that answer, the output buffer and the decision. Assumes nothing.
+-- output buffer; `on-row` is given its answer and the rows; `tell` is given that answer, the output buffer and the decision. Assumes nothing.
 use mathlib.Core.Path.{◌≡◌, refl}
 use Prim.Native.Nat.{ℕ, ◌<◌, ◌^◌}
 use mathlib.Core.List.{[], ◌∷◌, List}
@@ -32,8 +32,8 @@ use denote.Triple.Entry.{Args, Vals, on_entry}
 use denote.Triple.Walked.{says, Stays, stay_dropped, gave_slice, gave_ref, walk_of, Goes-dropped, Goes-gave_slice, Goes-gave_ref, ends_at}
 use denote.Exit.{yes}
 use Rattle.tally.specs.Limits.{today}
-use Rattle.tally.specs.Refusal.{number_of}
-use Rattle.formats.specs.Codes.{code_of}
+use Rattle.tally.specs.Refusal.{numberOf}
+use Rattle.formats.specs.Codes.{codeOf}
 use Rattle.cards.specs.InnerSteps.{cardTold, cardRows, deliverAsks, putMessage}
 use Rattle.cards.specs.declared.CardCall.{CardCall}
 use Rattle.cards.specs.declared.CardRow.{CardRow}
@@ -70,7 +70,7 @@ stayed =
 
 finish : (g n u : ℕ) (ys : List CardRow) (m o : List ℕ) (c : CardCall) (t : Told) (zr : List CardRow) (r : ℕ) (zo : List ℕ) (zd : ℕ)
     → c ≡ deliverAsks today g n u m (length o) → (t ≡ cardTold today c ys) × (zr ≡ cardRows today c ys)
-    → (r ≡ number_of t.refusal) × ((zo ≡ putMessage today t.message o) × (zd ≡ code_of t.decision))
+    → (r ≡ numberOf t.refusal) × ((zo ≡ putMessage today t.message o) × (zd ≡ codeOf t.decision))
     → cardCalled r zr zo zd ≡ cardDeliverCall today (beside g n u) ys m o
 finish g n u ys m o c t zr r zo zd ec e e₂ = rw (e₂.0, e₂.1.0, e₂.1.1, e.1, e.0, ec) (deliver-asked g n u ys o m)
 
@@ -166,7 +166,7 @@ module _ {M : Type 1} {𝓤 : Ura M} (𝓛 : Logic 𝓤) (mem : Memory → SProp
         asks ! fm tell.ended (tell.clauses 𝓛 mem run) known-tell
         (((κ₂, (κ₃, tt)), (q₂, (q₃, tt)), tt, (t, (xo, (xd, tt))), (v₁ ∷ [], (so ∷ [], (sd ∷ [], tt)))), tt) refl refl refl
         (λ (r : ℕ) (zs : Unit {0} × (List ℕ × (ℕ × Unit {0}))).
-        (r ≡ number_of t.refusal) × ((zs.1.0 ≡ putMessage today t.message xo.now) × (zs.1.1.0 ≡ code_of t.decision))) (λ r zs. refl)
+        (r ≡ numberOf t.refusal) × ((zs.1.0 ≡ putMessage today t.message xo.now) × (zs.1.1.0 ≡ codeOf t.decision))) (λ r zs. refl)
         (arg ! 16 refl (arg ! 6 refl (arg ! 4 refl (no_more !)))) (λ w r zs e₂ isr.
         move ! (1 ∷ []) $ fsplit ! $ drop ! $ fsplit ! $ fsplit ! $ move ! (1 ∷ []) $ feq_l ! (λ lo.
         move ! (1 ∷ []) $ fsplit ! $ move ! (1 ∷ []) $ drop ! $ move ! (2 ∷ []) $

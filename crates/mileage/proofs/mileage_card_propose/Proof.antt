@@ -30,7 +30,7 @@ use denote.Struct.Laws as LL
 use denote.Triple.Entry.{Args, Vals, on_entry}
 use denote.Triple.Walked.{says, Stays, gave_slice, walk_of, Goes-gave_slice, ends_at}
 use Rattle.tally.specs.Limits.{today, blankCode}
-use Rattle.tally.specs.Refusal.{number_of}
+use Rattle.tally.specs.Refusal.{numberOf}
 use Rattle.cards.specs.InnerSteps.{cardTold, cardRows, proposeAsks, putMessage}
 use Rattle.cards.specs.declared.CardCall.{CardCall}
 use Rattle.cards.specs.declared.CardRow.{CardRow}
@@ -64,7 +64,7 @@ stayed = (stay32, (stay32, (stay32, (gave_slice (0 ∷ []) tt (plain (λ _. R.th
 
 finish : (g n u k p : ℕ) (ys : List CardRow) (o : List ℕ) (c : CardCall) (t : Told) (zr : List CardRow) (r : ℕ) (zo : List ℕ)
     → c ≡ proposeAsks today g n u k p (length o) → (t ≡ cardTold today c ys) × (zr ≡ cardRows today c ys)
-    → (r ≡ number_of t.refusal) × (zo ≡ putMessage today t.message o) → cardCalled r zr zo blankCode ≡ cardProposeCall today (beside g n u) ys k p o
+    → (r ≡ numberOf t.refusal) × (zo ≡ putMessage today t.message o) → cardCalled r zr zo blankCode ≡ cardProposeCall today (beside g n u) ys k p o
 finish g n u k p ys o c t zr r zo ec e e₂ = rw (e₂.0, e₂.1, e.1, e.0, ec) (propose-asked g n u ys o k p)
 
 module _ {M : Type 1} {𝓤 : Ura M} (𝓛 : Logic 𝓤) (mem : Memory → SProp 𝓤) (run : Routine → Fun 𝓤) (κ₀ κ₁ : Lft) (q₀ q₁ : Share)
@@ -142,7 +142,7 @@ module _ {M : Type 1} {𝓤 : Ura M} (𝓛 : Logic 𝓤) (mem : Memory → SProp
         nothing ! $ move ! (4 ∷ 0 ∷ []) $ fjoin ! $ gives ! T.the_row (LL.makes T.the_type T'.the_plain 𝓛) t (v₁ ∷ []) ist $
         nothing ! $ move ! (4 ∷ 0 ∷ []) $ join ! $
         asks ! fm tell.ended (tell.clauses 𝓛 mem run) known-tell (((κ₁, tt), (q₁, tt), tt, (t, (xo, tt)), (v₁ ∷ [], (so ∷ [], tt))), tt) refl refl refl
-        (λ (r : ℕ) (zs : Unit {0} × (List ℕ × Unit {0})). (r ≡ number_of t.refusal) × (zs.1.0 ≡ putMessage today t.message xo.now)) (λ r zs. refl)
+        (λ (r : ℕ) (zs : Unit {0} × (List ℕ × Unit {0})). (r ≡ numberOf t.refusal) × (zs.1.0 ≡ putMessage today t.message xo.now)) (λ r zs. refl)
         (arg ! 13 refl (arg ! 3 refl (no_more !))) (λ w r zs e₂ isr.
         move ! (1 ∷ []) $ fsplit ! $ drop ! $ fsplit ! $ fsplit ! $ move ! (1 ∷ []) $ feq_l ! (λ lo. move ! (1 ∷ []) $ drop ! $ move ! (1 ∷ 0 ∷ []) $
         -- [κ₁ and true; the output's last; κ₀ and true; the rows'; _14 (4); …; _0 (32)]

@@ -5,7 +5,7 @@ use Rattle.tally.specs.Limits.{today, messageSize}
 use Rattle.tally.proofs.Bounds.{sane-today}
 use Rattle.formats.specs.Logs.{logReading}
 use Rattle.formats.specs.Messages.{messageReading}
-use Rattle.consensus.specs.Conditions.{first_of}
+use Rattle.consensus.specs.Conditions.{firstOf}
 use Rattle.calls.specs.Calls.{wrongLength, unitLengths, deliverCallConditions, deliverCall}
 use Rattle.calls.proofs.Entries.{log-refused, message-refused, out-size}
 use Rattle.calls.proofs.Held.{cleared-empty, log-good, image-bad, image-good, unit-read, held, deliver-held}
@@ -15,7 +15,7 @@ use Rattle.unit_calls.proofs.deliver.Statement.{statement}
 use Rattle.unit_calls.proofs.deliver.Tie as tie
 
 returns-2 : tie.Need-returns-2
-unfolding deliverCall deliverCallConditions first_of
+unfolding deliverCall deliverCallConditions firstOf
 returns-2 c =
     let k = c.before.enum_told.given in
     let s = c.before.before.before.before.before in
@@ -27,7 +27,7 @@ returns-2 c =
     )
 
 returns-3 : tie.Need-returns-3
-unfolding deliverCall deliverCallConditions first_of
+unfolding deliverCall deliverCallConditions firstOf
 returns-3 c =
     let l = c.before.before.before.before.before.before in
     let s = l.before.before.before.before in
@@ -42,7 +42,7 @@ returns-3 c =
     )
 
 returns-4 : tie.Need-returns-4
-unfolding deliverCall deliverCallConditions first_of
+unfolding deliverCall deliverCallConditions firstOf
 returns-4 c =
     let i = c.before.before.before.before.before in
     let l = i.before.before.before.before.before in
@@ -85,7 +85,7 @@ returns-5 c =
     (sym (ap messageReading m.m.given.1) ∙ m.before.before.read-message.ensures)
 
 pub deliver-spec : {M : Type 1} → statement M
-unfolding deliverCall deliverCallConditions first_of
+unfolding deliverCall deliverCallConditions firstOf
 deliver-spec =
     tie.close
     (tie.spec

@@ -3,7 +3,7 @@ use Rattle.tally.specs.Limits.{today}
 use Rattle.tally.proofs.Bounds.{sane-today}
 use Rattle.formats.specs.Logs.{logReading}
 use Rattle.formats.specs.Messages.{cleared}
-use Rattle.consensus.specs.Conditions.{first_of}
+use Rattle.consensus.specs.Conditions.{firstOf}
 use Rattle.consensus.specs.Step.{recovered}
 use Rattle.consensus.specs.Units.{atLog, downUnit}
 use Rattle.calls.specs.Calls.{badLog, keyOnCallConditions, keyOnCall}
@@ -13,7 +13,7 @@ use Rattle.unit_calls.proofs.key_on.Statement.{statement}
 use Rattle.unit_calls.proofs.key_on.Tie as tie
 
 returns-2 : tie.Need-returns-2
-unfolding keyOnCall keyOnCallConditions first_of cleared
+unfolding keyOnCall keyOnCallConditions firstOf cleared
 returns-2 c =
     let k = c.before.enum_told.given in
     rw (
@@ -23,7 +23,7 @@ returns-2 c =
     )
 
 returns-3 : tie.Need-returns-3
-unfolding keyOnCall keyOnCallConditions first_of badLog recovered downUnit atLog
+unfolding keyOnCall keyOnCallConditions firstOf badLog recovered downUnit atLog
 returns-3 c =
     let b = c.before.before.before.before.before.before in
     let s = b.before.before.before in
@@ -37,7 +37,7 @@ returns-3 c =
     )
 
 pub key-on-spec : {M : Type 1} → statement M
-unfolding keyOnCall keyOnCallConditions first_of cleared
+unfolding keyOnCall keyOnCallConditions firstOf cleared
 key-on-spec =
     tie.close
     (tie.spec

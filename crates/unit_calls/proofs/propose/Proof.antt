@@ -3,7 +3,7 @@ use native.Mathlib.Omega.{arith}
 use Rattle.tally.specs.Limits.{today}
 use Rattle.tally.proofs.Bounds.{sane-today}
 use Rattle.formats.specs.Logs.{logReading}
-use Rattle.consensus.specs.Conditions.{first_of}
+use Rattle.consensus.specs.Conditions.{firstOf}
 use Rattle.calls.specs.Calls.{unitLengths, proposeCallConditions, proposeCall}
 use Rattle.calls.proofs.Entries.{log-refused, out-size}
 use Rattle.calls.proofs.Held.{cleared-empty, log-good, image-bad, unit-read, held, propose-held}
@@ -13,7 +13,7 @@ use Rattle.unit_calls.proofs.propose.Statement.{statement}
 use Rattle.unit_calls.proofs.propose.Tie as tie
 
 returns-2 : tie.Need-returns-2
-unfolding proposeCall proposeCallConditions first_of
+unfolding proposeCall proposeCallConditions firstOf
 returns-2 c =
     let k = c.before.enum_told.given in
     let s = c.before.before.before.before in
@@ -25,7 +25,7 @@ returns-2 c =
     )
 
 returns-3 : tie.Need-returns-3
-unfolding proposeCall proposeCallConditions first_of
+unfolding proposeCall proposeCallConditions firstOf
 returns-3 c =
     let i = c.before.before.before in
     let l = i.before.before.before in
@@ -61,7 +61,7 @@ returns-4 c =
     ∙ propose-held _ _ _ h start.out.now size _
 
 pub propose-spec : {M : Type 1} → statement M
-unfolding proposeCall proposeCallConditions first_of
+unfolding proposeCall proposeCallConditions firstOf
 propose-spec =
     tie.close
     (tie.spec

@@ -3,7 +3,7 @@ use native.Mathlib.Omega.{arith}
 use borrow.Author.Tests.{not-true, not-false}
 use Rattle.tally.specs.Limits.{today}
 use Rattle.formats.specs.Messages.{cleared}
-use Rattle.consensus.specs.Conditions.{first_of}
+use Rattle.consensus.specs.Conditions.{firstOf}
 use Rattle.consensus.specs.Step.{fresh}
 use Rattle.consensus.specs.Units.{atLog}
 use Rattle.calls.specs.Calls.{badSettings, startCallConditions, startCall}
@@ -13,7 +13,7 @@ use Rattle.unit_calls.proofs.start.Statement.{statement}
 use Rattle.unit_calls.proofs.start.Tie as tie
 
 returns-2 : tie.Need-returns-2
-unfolding startCall startCallConditions first_of cleared
+unfolding startCall startCallConditions firstOf cleared
 returns-2 c =
     rw (
       sym c.before.before.before.before.wrong-lengths.ensures ∙ c.before.before.before.if1.false,
@@ -22,7 +22,7 @@ returns-2 c =
     )
 
 returns-3 : tie.Need-returns-3
-unfolding startCall startCallConditions first_of badSettings cleared
+unfolding startCall startCallConditions firstOf badSettings cleared
 returns-3 c =
     let s = c.before.before.before.before.before.before in
     rw (
@@ -32,7 +32,7 @@ returns-3 c =
     )
 
 returns-4 : tie.Need-returns-4
-unfolding startCall startCallConditions first_of badSettings cleared
+unfolding startCall startCallConditions firstOf badSettings cleared
 returns-4 c =
     let b = c.before.before.before.before in
     let s = b.before.before.before.before.before in
@@ -44,7 +44,7 @@ returns-4 c =
     )
 
 returns-5 : tie.Need-returns-5
-unfolding startCall startCallConditions first_of badSettings fresh atLog
+unfolding startCall startCallConditions firstOf badSettings fresh atLog
 returns-5 c =
     let p = c.before.before.before.before.before.before.before in
     let t = p.before.before.before.before in
@@ -66,7 +66,7 @@ returns-5 c =
     )
 
 pub start_spec : {M : Type 1} → statement M
-unfolding startCall startCallConditions first_of cleared
+unfolding startCall startCallConditions firstOf cleared
 start_spec =
     tie.close
     (tie.spec

@@ -11,7 +11,7 @@ use Rattle.bench_play.specs.Bench.{start}
 use Rattle.bench_play.specs.Claims.{Sized}
 use Rattle.bench_play.specs.Play.{answer}
 use Rattle.bench_turns.proofs.Turns.{Turned, place-below, turned, sent-room, after-sent, after-quiet, after-refused}
-use Rattle.bench.proofs.Rest.{Left, line-turned, turn-room, left-start, left-room, left_step, left_end, end-room}
+use Rattle.bench.proofs.Rest.{Left, line-turned, turn-room, left-start, left-room, left-step, left-end, end-room}
 use Rattle.bench.proofs.turns.put_events.Statement.{statement}
 use Rattle.bench.proofs.turns.put_events.Tie as tie
 
@@ -102,7 +102,7 @@ loop-again c =
       omega (arith, line.ensures.later),
       rw next (sized-answer today at.b at.invariant.2 line.result.event),
       put.put-line.auto.0 ∙ at.invariant.3,
-      left_step today _ _ at.invariant.4 line.result _ line.ensures next
+      left-step today _ _ at.invariant.4 line.result _ line.ensures next
           (rw (put.before.listing-line.ensures, line-turned _ (line_taken t)) at put.put-line.ensures),
     )
 
@@ -119,7 +119,7 @@ same_length c = c.before.before.put-end.auto.0 ∙ c.before.before.before.before
 returns : tie.Need-returns invariant-loop decreases-loop
 returns c =
     let e = c.before.before.before.before in
-    left_end today _ _ e.before.loop.invariant.4 e.loop-test.false c.before.before.put-end.ensures
+    left-end today _ _ e.before.loop.invariant.4 e.loop-test.false c.before.before.put-end.ensures
 
 pub put-events-spec : {M : Type 1} → statement M
 put-events-spec =

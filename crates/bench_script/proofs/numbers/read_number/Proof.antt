@@ -6,30 +6,30 @@ use borrow.Author.Rules.{rules}
 use borrow.Author.Tests.{le-leb, lt-leb, not-true, not-false}
 use lib.Dec.{leb}
 use lib.ListN.{length}
-use Rattle.script.specs.Numbers.{maxDigits, maxNumber, allDigits, leadingZero, valueFrom, is_number, readNumber}
+use Rattle.script.specs.Numbers.{maxDigits, maxNumber, allDigits, leadingZero, valueFrom, isNumber, readNumber}
 use Rattle.script.specs.declared.NumberRead.{NumberRead}
 use Rattle.bench_script.proofs.numbers.read_number.Statement.{statement}
 use Rattle.bench_script.proofs.numbers.read_number.Tie as tie
 
 by_value : (s : List ℕ) → 1 ≤ length s → length s ≤ maxDigits → allDigits s ≡ true → leadingZero s ≡ false
     → readNumber s ≡ cond (leb (valueFrom 0 s) maxNumber) (NumberRead.Is (valueFrom 0 s)) NumberRead.Malformed
-unfolding is_number readNumber
+unfolding isNumber readNumber
 by_value s some few d z = simp (le-leb 1 (length s) some, le-leb (length s) maxDigits few, d, z)
 
 returns : tie.Need-returns
-unfolding is_number readNumber
+unfolding isNumber readNumber
 returns c = simp (lt-leb _ _ c.if1.true)
 
 returns-2 : tie.Need-returns-2
-unfolding is_number readNumber
+unfolding isNumber readNumber
 returns-2 c = simp (lt-leb _ _ c.if2.true, and-false)
 
 returns-3 : tie.Need-returns-3
-unfolding is_number readNumber
+unfolding isNumber readNumber
 returns-3 c = simp (← c.before.all_digits.ensures, not-true c.before.all_digits.result c.if3.true, and-false)
 
 returns-4 : tie.Need-returns-4
-unfolding is_number readNumber
+unfolding isNumber readNumber
 returns-4 c = simp (← c.before.leading-zero.ensures, c.if4.true, and-false)
 
 value-requires : tie.Need-value-requires

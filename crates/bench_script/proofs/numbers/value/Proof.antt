@@ -8,7 +8,7 @@ use native.Mathlib.Numerals.{add-one}
 use native.Mathlib.Omega.{arith}
 use borrow.Author.Rules.{rules}
 use lib.ListN.{length, drop, get_or, drop_of_length-le}
-use Rattle.contents.proofs.Tests.{both_true}
+use Rattle.contents.proofs.Tests.{both-true}
 use Rattle.formats.proofs.Packed.{drop-step}
 use Rattle.script.specs.Numbers.{digitZero, digitNine, maxDigits, isDigit, allDigits, valueFrom}
 use Rattle.script.proofs.Fields.{digit-range}
@@ -23,7 +23,7 @@ decreases-loop s v₀ i₀ v i = length s - i
 
 module _ (s : List ℕ) (i : ℕ) (h : i < length s) (d : allDigits (drop i s) ≡ true) where
   digits : (isDigit (get_or s i 0) ≡ true) × (allDigits (drop (i + 1) s) ≡ true)
-  digits = both_true (isDigit (get_or s i 0)) (allDigits (drop (i + 1) s)) (rw (drop-step s i 0) at d)
+  digits = both-true (isDigit (get_or s i 0)) (allDigits (drop (i + 1) s)) (rw (drop-step s i 0) at d)
 
   digit : (digitZero ≤ get_or s i 0) × (get_or s i 0 ≤ digitNine)
   digit = digit-range (get_or s i 0) digits.0

@@ -1,6 +1,6 @@
 use mathlib.Core.Path.{sym, ◌∙◌}
 use borrow.Author.Tests.{not-false}
-use Rattle.consensus.specs.Conditions.{first_of}
+use Rattle.consensus.specs.Conditions.{firstOf}
 use Rattle.consensus.specs.Methods.{deliverConditions, unless, deliver}
 use Rattle.consensus.specs.InnerMethods.{deliverRead}
 use borrow.Author.Rules.{rules}
@@ -8,7 +8,7 @@ use Rattle.consensus.proofs.Unit.deliver.Statement.{statement}
 use Rattle.consensus.proofs.Unit.deliver.Tie as tie
 
 pub deliver-spec : {M : Type 1} → statement M
-unfolding deliver deliverConditions unless first_of deliverRead
+unfolding deliver deliverConditions unless firstOf deliverRead
 deliver-spec =
     tie.close
     (tie.spec

@@ -1,7 +1,7 @@
 use native.Mathlib.Omega.{arith}
 use Rattle.tally.specs.Limits.{today}
 use Rattle.contents.proofs.Facts.{message-facts}
-use Rattle.consensus.specs.Conditions.{first_of}
+use Rattle.consensus.specs.Conditions.{firstOf}
 use Rattle.consensus.specs.Methods.{unless}
 use Rattle.consensus.specs.InnerMethods.{deliverRead}
 use borrow.Author.Rules.{rules}
@@ -19,7 +19,7 @@ received-requires c κs =
     (omega (arith, m.numbers.below, m.numbers.n-high), m.round)
 
 pub deliver-read-spec : {M : Type 1} → statement M
-unfolding deliverRead unless first_of
+unfolding deliverRead unless firstOf
 deliver-read-spec =
     tie.close
     (tie.spec

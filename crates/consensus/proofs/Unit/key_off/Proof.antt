@@ -1,11 +1,11 @@
-use Rattle.consensus.specs.Conditions.{first_of}
+use Rattle.consensus.specs.Conditions.{firstOf}
 use Rattle.consensus.specs.Methods.{keyOff, unless}
 use borrow.Author.Rules.{rules}
 use Rattle.consensus.proofs.Unit.key_off.Statement.{statement}
 use Rattle.consensus.proofs.Unit.key_off.Tie as tie
 
 pub key-off-spec : {M : Type 1} → statement M
-unfolding keyOff unless first_of
+unfolding keyOff unless firstOf
 key-off-spec =
     tie.close
     (tie.spec

@@ -1,11 +1,11 @@
-use Rattle.consensus.specs.Conditions.{first_of}
+use Rattle.consensus.specs.Conditions.{firstOf}
 use Rattle.consensus.specs.Methods.{keyOn, unless}
 use borrow.Author.Rules.{rules}
 use Rattle.consensus.proofs.Unit.key_on.Statement.{statement}
 use Rattle.consensus.proofs.Unit.key_on.Tie as tie
 
 pub key-on-spec : {M : Type 1} → statement M
-unfolding keyOn unless first_of
+unfolding keyOn unless firstOf
 key-on-spec =
     tie.close
     (tie.spec

@@ -1,11 +1,11 @@
-use Rattle.consensus.specs.Conditions.{first_of}
+use Rattle.consensus.specs.Conditions.{firstOf}
 use Rattle.consensus.specs.Methods.{proposeConditions, unless, propose}
 use borrow.Author.Rules.{rules}
 use Rattle.consensus.proofs.Unit.propose.Statement.{statement}
 use Rattle.consensus.proofs.Unit.propose.Tie as tie
 
 pub propose-spec : {M : Type 1} → statement M
-unfolding propose proposeConditions unless first_of
+unfolding propose proposeConditions unless firstOf
 propose-spec =
     tie.close
     (tie.spec
