@@ -154,6 +154,7 @@ pub const NO_CELLS: [Cell; limits::SENDERS] = [Cell {
 }; limits::SENDERS];
 
 impl Tally {
+    #[tactic(auto, unfolding(crate::specs::Tally::noMarks))]
     pub fn empty() -> Tally
         ensures { result ≡ noMarks }
     {
@@ -163,6 +164,7 @@ impl Tally {
         }
     }
 
+    #[tactic(auto, unfolding(crate::specs::Tally::mark))]
     pub fn mark(self, sender: u8, estimate: Estimate) -> Tally
         requires { sender < senders }
         ensures { result ≡ mark self sender estimate }
@@ -239,6 +241,7 @@ impl Tally {
     }
 
     // Is it a mileage that at least `need` of the marked hold?
+    #[tactic(auto, unfolding(crate::specs::Gathered::leads))]
     fn leads(self, need: u32, e: Estimate) -> bool
         ensures { result ≡ leads need (gathered self) e }
     {
@@ -250,6 +253,7 @@ impl Tally {
     }
 
     // The mileage that at least `need` of the marked hold; blank where there is none.
+    #[tactic(auto, unfolding(crate::specs::Gathered::majority, crate::specs::Tally::gathered))]
     pub fn majority(self, need: u32) -> Estimate
         ensures { result ≡ majority need (gathered self) }
     {
