@@ -39,7 +39,10 @@ num-bytes (suc k) x p q o e h =
     let len : length (p ++ b) ≡ o + k = simp (length-append, length-bytesOf) (omega arith) in
     let i : numAt (p ++ (b ++ r)) o k ≡ x / 256 = num-bytes k (x / 256) p r o e (omega arith) in
     let j : get_or (p ++ (b ++ r)) (o + k) 0 ≡ x % 256 = rw (← append_assoc p b r) (get_or_at (p ++ b) (x % 256) q 0 (o + k) len) in
-    rw (append_assoc b (x % 256 ∷ []) q, i, j) (omega arith)
+    let both : p ++ (bytesOf (suc k) x ++ q) ≡ p ++ (b ++ r) = ap (λ (s : List ℕ). p ++ s) (append_assoc b (x % 256 ∷ []) q) in
+    let high : numAt (p ++ (bytesOf (suc k) x ++ q)) o k ≡ x / 256 = ap (λ (s : List ℕ). numAt s o k) both ∙ i in
+    let low : get_or (p ++ (bytesOf (suc k) x ++ q)) (o + k) 0 ≡ x % 256 = ap (λ (s : List ℕ). get_or s (o + k) 0) both ∙ j in
+    rw (high, low) (omega arith)
 
 -- what was read is stored back
 pub bytes-num : (k o : ℕ) (bs : List ℕ) → Bytes bs → o + k ≤ length bs → bytesOf k (numAt bs o k) ≡ take k (drop o bs)

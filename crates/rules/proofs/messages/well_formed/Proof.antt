@@ -1,9 +1,0 @@
-use Rattle.contents.specs.Messages.{messageOk}
-use borrow.Author.Rules.{rules}
-use Rattle.rules.proofs.messages.well_formed.Statement.{statement}
-use Rattle.rules.proofs.messages.well_formed.Tie as tie
-
-pub well-formed-spec : {M : Type 1} → statement M
-unfolding messageOk
-well-formed-spec =
-    tie.close (tie.spec (λ c κs. search rules) (λ c κs. search rules) (λ c κs. search rules) (λ c. cc))
