@@ -51,6 +51,7 @@ pub fn is_mileage(e: Estimate) -> bool
     }
 }
 
+#[tactic(auto, unfolding(contents::specs::Estimates::mileageOrBlank))]
 pub fn mileage_or_blank(e: Estimate) -> bool
     ensures { result ≡ mileageOrBlank today e }
 {
@@ -58,6 +59,7 @@ pub fn mileage_or_blank(e: Estimate) -> bool
 }
 
 // A mileage or, in B, split.
+#[tactic(auto, unfolding(contents::specs::Estimates::mileageOrSplit))]
 pub fn mileage_or_split(engine: Engine, e: Estimate) -> bool
     ensures { result ≡ mileageOrSplit today engine e }
 {
@@ -65,6 +67,7 @@ pub fn mileage_or_split(engine: Engine, e: Estimate) -> bool
 }
 
 // What a log's second estimate can be.
+#[tactic(auto, unfolding(contents::specs::Estimates::secondEstimateOk))]
 pub fn second_estimate_ok(engine: Engine, e: Estimate) -> bool
     ensures { result ≡ secondEstimateOk today engine e }
 {
@@ -91,6 +94,7 @@ pub fn same_estimate(a: Estimate, b: Estimate) -> bool
 }
 
 // The same mileage twice.
+#[tactic(auto, unfolding(contents::specs::Estimates::sameMileage))]
 pub fn same_mileage(a: Estimate, b: Estimate) -> bool
     ensures { result ≡ sameMileage today a b }
 {

@@ -8,6 +8,7 @@ use contents::{Settings, State};
 use tally::{Engine, Estimate};
 
 // A sender's mark, and the estimate in its cell; `split` says whether a marked one may be split.
+#[tactic(auto, unfolding(contents::specs::Images::cellOk))]
 pub fn cell_ok(split: bool, n: u8, sender: u8, marked: bool, e: Estimate) -> bool
     ensures { result ≡ cellOk today split n sender marked e }
 {
@@ -19,12 +20,14 @@ pub fn cell_ok(split: bool, n: u8, sender: u8, marked: bool, e: Estimate) -> boo
 }
 
 // In R, or when the second estimate is not blank, there are no CHECK marks.
+#[tactic(auto, unfolding(contents::specs::Images::checksAllowed))]
 pub fn checks_allowed(engine: Engine, second: Estimate, marks: u16) -> bool
     ensures { result ≡ checksAllowed engine second marks }
 {
     (estimates::is_b(engine) & estimates::is_blank(second)) | (marks == 0)
 }
 
+#[tactic(auto, unfolding(contents::specs::Images::sameSettings))]
 pub fn same_settings(a: Settings, b: Settings) -> bool
     ensures { result ≡ sameSettings a b }
 {
@@ -34,6 +37,7 @@ pub fn same_settings(a: Settings, b: Settings) -> bool
 }
 
 // The state of an image against that of its log.
+#[tactic(auto, unfolding(contents::specs::Images::stateFits))]
 pub fn state_fits(i: State, l: State) -> bool
     ensures { result ≡ stateFits i l }
 {

@@ -31,6 +31,7 @@ pub fn settings_ok(s: Settings) -> bool
     numbers_ok(s.n, s.unit, s.entry)
 }
 
+#[tactic(auto, unfolding(contents::specs::Logs::stateOk))]
 pub fn state_ok(engine: Engine, s: State) -> bool
     ensures { result ≡ stateOk today engine s }
 {
@@ -43,6 +44,7 @@ pub fn state_ok(engine: Engine, s: State) -> bool
         & estimates::second_estimate_ok(engine, second)
 }
 
+#[tactic(auto, unfolding(contents::specs::Logs::logOk))]
 pub fn well_formed(log: Log) -> bool
     ensures { result ≡ logOk today log }
 {

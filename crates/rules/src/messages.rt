@@ -20,6 +20,7 @@ pub fn is_empty(kind: Kind) -> bool
     }
 }
 
+#[tactic(auto, unfolding(contents::specs::Messages::firstOk))]
 pub fn first_ok(m: Message) -> bool
     ensures { result ≡ firstOk today m }
 {
@@ -28,6 +29,7 @@ pub fn first_ok(m: Message) -> bool
     (m.receiver == limits::EVERYONE) & estimates::same_mileage(estimate, proposal)
 }
 
+#[tactic(auto, unfolding(contents::specs::Messages::checkOk))]
 pub fn check_ok(m: Message) -> bool
     ensures { result ≡ checkOk today m }
 {
@@ -35,6 +37,7 @@ pub fn check_ok(m: Message) -> bool
     estimates::is_b(engine) & first_ok(m)
 }
 
+#[tactic(auto, unfolding(contents::specs::Messages::secondOk))]
 pub fn second_ok(m: Message) -> bool
     ensures { result ≡ secondOk today m }
 {
@@ -46,6 +49,7 @@ pub fn second_ok(m: Message) -> bool
         & estimates::mileage_or_blank(proposal)
 }
 
+#[tactic(auto, unfolding(contents::specs::Messages::skipOk))]
 pub fn skip_ok(m: Message) -> bool
     ensures { result ≡ skipOk today m }
 {
@@ -54,6 +58,7 @@ pub fn skip_ok(m: Message) -> bool
     (m.receiver < m.n) & estimates::is_blank(estimate) & estimates::mileage_or_blank(proposal)
 }
 
+#[tactic(auto, unfolding(contents::specs::Messages::kindOk))]
 pub fn kind_ok(kind: Kind, m: Message) -> bool
     ensures { result ≡ kindOk today kind m }
 {
@@ -66,6 +71,7 @@ pub fn kind_ok(kind: Kind, m: Message) -> bool
     }
 }
 
+#[tactic(auto, unfolding(contents::specs::Messages::messageOk))]
 pub fn well_formed(m: Message) -> bool
     ensures { result ≡ messageOk today m }
 {
