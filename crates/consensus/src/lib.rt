@@ -64,6 +64,7 @@ impl Unit {
     }
 
     // A unit at its log's contents, without marks.
+    #[tactic(auto, unfolding(crate::specs::Units::atLog))]
     pub(crate) fn at_log(power: Power, settings: Settings, logged: State) -> Unit
         ensures { result ≡ atLog power settings logged }
     {
@@ -78,6 +79,7 @@ impl Unit {
     }
 
     // The down unit of a log.
+    #[tactic(auto, unfolding(crate::specs::Units::downUnit))]
     pub(crate) fn down(log: Log) -> Unit
         ensures { result ≡ downUnit log }
     {

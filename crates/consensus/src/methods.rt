@@ -20,6 +20,7 @@ pub fn is_up(power: Power) -> bool
 }
 
 // Another engine, n, entry or receiver?
+#[tactic(auto, unfolding(crate::specs::Methods::forOther))]
 fn for_other(s: Settings, m: Message) -> bool
     ensures { result ≡ forOther s m }
 {
@@ -31,6 +32,7 @@ fn for_other(s: Settings, m: Message) -> bool
         & ((m.receiver == limits::EVERYONE) | (m.receiver == s.unit)))
 }
 
+#[tactic(auto, unfolding(crate::specs::Methods::outOfRange))]
 fn out_of_range(mileage: u32) -> bool
     ensures { result ≡ outOfRange today mileage }
 {
@@ -51,6 +53,7 @@ fn is_second(kind: Kind) -> bool
 
 impl Unit {
     // Would this SECOND close the last round?
+    #[tactic(auto, unfolding(crate::specs::Methods::closesLast, crate::specs::Step::isFull, crate::specs::Step::secondsWith))]
     fn closes_last(self, m: Message) -> bool
         requires { m.sender < senders }
         ensures { result ≡ closesLast today self m }
@@ -80,6 +83,7 @@ impl Unit {
     }
 
     // A delivery of a message found well formed and for this unit, which is up: 7 is the one refusal left.
+    #[tactic(auto, unfolding(crate::specs::InnerMethods::deliverRead, crate::specs::Methods::unless, crate::specs::Conditions::firstOf))]
     fn deliver_read(self, m: Message) -> Answer
         requires { messageOk today m ≡ true }
         ensures { result ≡ deliverRead today self m }
@@ -92,6 +96,7 @@ impl Unit {
     }
 
     // Proposes a mileage.
+    #[tactic(auto, unfolding(crate::specs::Methods::propose, crate::specs::Methods::proposeConditions, crate::specs::Methods::unless, crate::specs::Conditions::firstOf))]
     pub fn propose(self, mileage: u32) -> Answer
         ensures { result ≡ propose today self mileage }
     {
@@ -106,6 +111,7 @@ impl Unit {
     }
 
     // Takes a message.
+    #[tactic(auto, unfolding(crate::specs::Methods::deliver, crate::specs::Methods::deliverConditions, crate::specs::Methods::unless, crate::specs::Conditions::firstOf, crate::specs::InnerMethods::deliverRead))]
     pub fn deliver(self, m: Message) -> Answer
         ensures { result ≡ deliver today self m }
     {
@@ -124,6 +130,7 @@ impl Unit {
     }
 
     // The unit goes down, and its image is lost.
+    #[tactic(auto, unfolding(crate::specs::Methods::keyOff, crate::specs::Methods::unless, crate::specs::Conditions::firstOf))]
     pub fn key_off(self) -> Answer
         ensures { result ≡ keyOff self }
     {
@@ -136,6 +143,7 @@ impl Unit {
     }
 
     // The unit comes up at its log.
+    #[tactic(auto, unfolding(crate::specs::Methods::keyOn, crate::specs::Methods::unless, crate::specs::Conditions::firstOf))]
     pub fn key_on(self) -> Answer
         ensures { result ≡ keyOn self }
     {

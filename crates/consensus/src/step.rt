@@ -77,6 +77,7 @@ fn decided(e: Estimate) -> Estimate
 }
 
 // The proposal of the next round, of the SECONDs gathered.
+#[tactic(auto, unfolding(crate::specs::Step::nextProposal))]
 fn next_proposal(engine: Engine, n: u8, t: Tally, own: Estimate) -> Estimate
     ensures { result ≡ nextProposal engine n t own }
 {
@@ -124,6 +125,7 @@ impl Unit {
     }
 
     // A message of this unit, with its round.
+    #[tactic(auto, unfolding(crate::specs::Step::says))]
     fn says(self, kind: Kind, receiver: u8, estimate: Estimate, proposal: Estimate) -> Message
         ensures { result ≡ says self kind receiver estimate proposal }
     {
@@ -171,6 +173,7 @@ impl Unit {
     }
 
     // A log write stores the whole record.
+    #[tactic(auto, unfolding(crate::specs::Step::logWrite))]
     fn log_write(self, state: State) -> Unit
         ensures { result ≡ logWrite self state }
     {
@@ -182,6 +185,7 @@ impl Unit {
     }
 
     // The unit takes a round and a proposal, and blanks both estimates and all marks.
+    #[tactic(auto, unfolding(crate::specs::Step::atRound))]
     fn at_round(mut self, round: Round, proposal: Estimate) -> Unit
         ensures { result ≡ atRound self round proposal }
     {
@@ -195,6 +199,7 @@ impl Unit {
 
     // ---- starting, and key-on
     // A fresh unit has round 0 and all blank.
+    #[tactic(auto, unfolding(crate::specs::Step::fresh))]
     pub fn fresh(settings: Settings) -> Unit
         ensures { result ≡ fresh settings }
     {
@@ -202,6 +207,7 @@ impl Unit {
     }
 
     // The image of the log, without marks.
+    #[tactic(auto, unfolding(crate::specs::Step::recovered))]
     pub(crate) fn recovered(self) -> Unit
         ensures { result ≡ recovered self }
     {
@@ -212,6 +218,7 @@ impl Unit {
 
     // ---- to propose
     // FIRST goes out with round and proposal.
+    #[tactic(auto, unfolding(crate::specs::Step::sendFirst))]
     fn send_first(self, p: Estimate) -> Answer
         ensures { result ≡ sendFirst self p }
     {
@@ -224,6 +231,7 @@ impl Unit {
     }
 
     // If the proposal is blank it becomes the mileage given.
+    #[tactic(auto, unfolding(crate::specs::Step::proposed))]
     pub(crate) fn proposed(self, mileage: u32) -> Answer
         ensures { result ≡ proposed self mileage }
     {
@@ -234,6 +242,7 @@ impl Unit {
 
     // ---- FIRST
     // The first estimate becomes the proposal received; log; B sends CHECK, R sends SECOND.
+    #[tactic(auto, unfolding(crate::specs::Step::takeFirst))]
     fn take_first(self, e: Estimate) -> Answer
         ensures { result ≡ takeFirst self e }
     {
@@ -253,6 +262,7 @@ impl Unit {
         )
     }
 
+    #[tactic(auto, unfolding(crate::specs::Step::onFirst))]
     fn on_first(self, m: Message) -> Answer
         ensures { result ≡ onFirst self m }
     {
@@ -268,6 +278,7 @@ impl Unit {
 
     // ---- CHECK
     // The second estimate is set; log; CHECK marks are cleared; SECOND goes out.
+    #[tactic(auto, unfolding(crate::specs::Step::takeSecond))]
     fn take_second(self, e: Estimate) -> Answer
         ensures { result ≡ takeSecond self e }
     {
@@ -281,6 +292,7 @@ impl Unit {
         .sends(Kind::Second, limits::EVERYONE, e, own)
     }
 
+    #[tactic(auto, unfolding(crate::specs::Step::countCheck, crate::specs::Step::isFull))]
     fn count_check(self, t: Tally) -> Answer
         ensures { result ≡ countCheck self t }
     {
@@ -291,6 +303,7 @@ impl Unit {
         }
     }
 
+    #[tactic(auto, unfolding(crate::specs::Step::onCheck, crate::specs::Step::checksWith))]
     fn on_check(self, m: Message) -> Answer
         requires { m.sender < senders }
         ensures { result ≡ onCheck self m }
@@ -306,6 +319,7 @@ impl Unit {
 
     // ---- SECOND
     // A mileage that all gathered hold is decided; the round rises by 1, estimates and marks are blanked.
+    #[tactic(auto, unfolding(crate::specs::Step::close))]
     fn close(self, t: Tally) -> Answer
         requires { self.current.round ≤ today.lastRound }
         ensures { result ≡ close self t }
@@ -318,6 +332,7 @@ impl Unit {
             .gives(EMPTY, decided(t.common()))
     }
 
+    #[tactic(auto, unfolding(crate::specs::Step::countSecond, crate::specs::Step::isFull))]
     fn count_second(self, t: Tally) -> Answer
         requires { self.current.round ≤ today.lastRound }
         ensures { result ≡ countSecond self t }
@@ -329,6 +344,7 @@ impl Unit {
         }
     }
 
+    #[tactic(auto, unfolding(crate::specs::Step::onSecond, crate::specs::Step::secondsWith))]
     fn on_second(self, m: Message) -> Answer
         requires { (m.sender < senders) × (self.current.round ≤ today.lastRound) }
         ensures { result ≡ onSecond self m }
@@ -341,6 +357,7 @@ impl Unit {
     }
 
     // ---- any message
+    #[tactic(auto, unfolding(crate::specs::Step::onKind))]
     fn on_kind(self, kind: Kind, m: Message) -> Answer
         requires { (m.sender < senders) × (self.current.round ≤ today.lastRound) }
         ensures { result ≡ onKind kind self m }
@@ -355,6 +372,7 @@ impl Unit {
     }
 
     // SKIP goes to the sender of a message below the unit's round.
+    #[tactic(auto, unfolding(crate::specs::Step::skip))]
     fn skip(self, receiver: u8) -> Answer
         ensures { result ≡ skip self receiver }
     {
@@ -364,6 +382,7 @@ impl Unit {
     }
 
     // A message above the unit's round raises it.
+    #[tactic(auto, unfolding(crate::specs::Step::caughtUp))]
     fn caught_up(self, m: Message) -> Unit
         ensures { result ≡ caughtUp self m }
     {
@@ -375,6 +394,7 @@ impl Unit {
         }
     }
 
+    #[tactic(auto, unfolding(crate::specs::Step::received))]
     pub(crate) fn received(self, m: Message) -> Answer
         requires { (m.sender < senders) × (m.round ≤ today.lastRound) }
         ensures { result ≡ received self m }
