@@ -15,6 +15,7 @@ use formats::{EngineRead, KindRead, LogRead, MessageRead};
 use tally::{Refusal, limits};
 
 // Reads a log's eight numbers: engine letter, n, unit, entry, round, proposal, first and second estimate.
+#[tactic(auto, unfolding(formats::specs::Logs::readLog, calls::specs::Fields::readLogCall))]
 pub fn read_log(log: &[u8], fields: &mut [u32]) -> u32
     ensures { wrote result fields.new ≡ readLogCall today log.now fields.old }
 {
@@ -31,6 +32,7 @@ pub fn read_log(log: &[u8], fields: &mut [u32]) -> u32
 }
 
 // Writes a log of its eight numbers.
+#[tactic(auto, unfolding(formats::specs::Logs::writeLog, calls::specs::Fields::writeLogCall, calls::specs::InnerFields::logNarrow))]
 pub fn write_log(fields: &[u32], log: &mut [u8]) -> u32
     ensures { wrote result log.new ≡ writeLogCall today fields.now log.old }
 {
@@ -50,6 +52,7 @@ pub fn write_log(fields: &[u32], log: &mut [u8]) -> u32
 }
 
 // Reads a message's nine numbers: kind and engine letter, n, sender, receiver, entry, round, estimate, proposal.
+#[tactic(auto, unfolding(formats::specs::Messages::readMessage, calls::specs::Fields::readMessageCall))]
 pub fn read_message(message: &[u8], fields: &mut [u32]) -> u32
     ensures { wrote result fields.new ≡ readMessageCall today message.now fields.old }
 {
@@ -74,6 +77,7 @@ fn refuse(why: Refusal, message: &mut [u8]) -> u32
 }
 
 // Writes a message whose letters have been looked up.
+#[tactic(auto, unfolding(formats::specs::Messages::writeMessage))]
 fn write_known(kind: KindRead, engine: EngineRead, fields: &[u32], message: &mut [u8]) -> u32
     requires fields_len { (length fields.now ≡ messageFields) × (messageNarrow today fields.now ≡ true) }
     requires message_len { length message.old ≡ messageSize today }
@@ -92,6 +96,7 @@ fn write_known(kind: KindRead, engine: EngineRead, fields: &[u32], message: &mut
 }
 
 // Writes a message of its nine numbers.
+#[tactic(auto, unfolding(calls::specs::Fields::writeMessageCall, calls::specs::InnerFields::messageNarrow))]
 pub fn write_message(fields: &[u32], message: &mut [u8]) -> u32
     ensures { wrote result message.new ≡ writeMessageCall today fields.now message.old }
 {

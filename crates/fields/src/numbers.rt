@@ -10,6 +10,7 @@ use tally::Engine;
 use tally::limits::Round;
 
 // Does each number fit its bytes?
+#[tactic(auto, unfolding(calls::specs::InnerFields::logNarrow))]
 pub(crate) fn log_narrow(f: &[u32]) -> bool
     requires { length f.now ≡ logFields }
     ensures { result ≡ logNarrow today f.now }
@@ -17,6 +18,7 @@ pub(crate) fn log_narrow(f: &[u32]) -> bool
     (f[0] < 256) & (f[1] < 256) & (f[2] < 256) & (f[3] < 65536) & codes::round_narrow(f[4])
 }
 
+#[tactic(auto, unfolding(calls::specs::InnerFields::logNarrow))]
 pub(crate) fn log_of(engine: Engine, f: &[u32]) -> Log
     requires { (length f.now ≡ logFields) × (logNarrow today f.now ≡ true) }
     ensures { result ≡ logOf engine f.now }
@@ -57,6 +59,7 @@ pub(crate) fn put_log(log: Log, f: &mut [u32])
     f[7] = codes::code_of(second);
 }
 
+#[tactic(auto, unfolding(calls::specs::InnerFields::messageNarrow))]
 pub(crate) fn message_narrow(f: &[u32]) -> bool
     requires { length f.now ≡ messageFields }
     ensures { result ≡ messageNarrow today f.now }
@@ -70,6 +73,7 @@ pub(crate) fn message_narrow(f: &[u32]) -> bool
         & codes::round_narrow(f[6])
 }
 
+#[tactic(auto, unfolding(calls::specs::InnerFields::messageNarrow))]
 pub(crate) fn message_of(kind: Kind, engine: Engine, f: &[u32]) -> Message
     requires { (length f.now ≡ messageFields) × (messageNarrow today f.now ≡ true) }
     ensures { result ≡ messageOf kind engine f.now }
