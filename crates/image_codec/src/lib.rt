@@ -40,6 +40,7 @@ fn put_blanks(out: &mut [u8], at: usize)
 }
 
 // A tally without marks.
+#[tactic(auto, unfolding(tally::specs::Tally::noMarks))]
 fn put_no_marks(out: &mut [u8], at: usize)
     requires { at + total tallyWidths ≤ length out.old }
     ensures { out.new ≡ packInto out.old at tallyWidths (tallyNumbers noMarks) }
@@ -49,6 +50,7 @@ fn put_no_marks(out: &mut [u8], at: usize)
 }
 
 // Stores the image that a log gives, without marks; a buffer of another length keeps its bytes.
+#[tactic(auto, unfolding(formats::specs::InnerFormats::stored))]
 pub fn store_unmarked(log: Log, out: &mut [u8])
     ensures { out.new ≡ stored (imageFormat today) (withTallies log noMarks noMarks) out.old }
 {
@@ -68,6 +70,7 @@ fn is_blank_at(s: &[u8], at: usize) -> bool
 }
 
 // Are all sixteen cells blank?
+#[tactic(auto, unfolding(contents::specs::Images::every))]
 fn blanks_at(s: &[u8], at: usize) -> bool
     requires { at + total cellWidths ≤ length s.now }
     ensures { result ≡ every senders (λ u. isBlank (estimateOf (numAt s.now (at + 4 * u) 4))) }
@@ -94,6 +97,7 @@ fn cell_ok_at(s: &[u8], at: usize, split: bool, n: u8, sender: u8, marked: bool)
 }
 
 // A tally without marks is tested in one pass.
+#[tactic(auto, unfolding(contents::specs::Images::every, contents::specs::Images::cellsOk))]
 fn cells_ok_at(s: &[u8], at: usize, split: bool, n: u8) -> bool
     requires { at + total tallyWidths ≤ length s.now }
     ensures { result ≡ cellsOk today split n (tallyAt at s.now) }
@@ -111,6 +115,7 @@ fn cells_ok_at(s: &[u8], at: usize, split: bool, n: u8) -> bool
     ok
 }
 
+#[tactic(auto, unfolding(contents::specs::Images::tallyOk))]
 fn tally_ok_at(s: &[u8], at: usize, split: bool, engine: Engine, n: u8) -> bool
     requires { at + total tallyWidths ≤ length s.now }
     ensures { result ≡ tallyOk today split engine n (tallyAt at s.now) }
@@ -120,6 +125,7 @@ fn tally_ok_at(s: &[u8], at: usize, split: bool, engine: Engine, n: u8) -> bool
 }
 
 // Are the tallies, after these first contents, well formed, and does all of it fit the log?
+#[tactic(auto, unfolding(contents::specs::Images::imageOk, contents::specs::Images::fits))]
 fn fits_at(s: &[u8], front: Log, log: Log) -> bool
     requires { length s.now ≡ imageSize today }
     ensures { result ≡ (imageOk today (withTallies front (tallyAt checksAt s.now) (tallyAt secondsAt s.now))
@@ -149,6 +155,7 @@ fn fits_at(s: &[u8], front: Log, log: Log) -> bool
 }
 
 // The state of an image that is well formed and fits the log.
+#[tactic(auto, unfolding(formats::specs::Images::readImage, formats::specs::InnerImages::fitState))]
 pub fn state_for(s: &[u8], log: Log) -> StateRead
     ensures { result ≡ fitState (readImage today s.now) log }
 {
@@ -179,6 +186,7 @@ fn held_at(s: &[u8], at: usize, marked: bool) -> Estimate
     }
 }
 
+#[tactic(auto, unfolding(formats::specs::InnerImages::heldFrom))]
 fn cells_at(s: &[u8], at: usize, marks: u16) -> [Cell; limits::SENDERS]
     requires { at + total cellWidths ≤ length s.now }
     ensures { result ≡ heldFrom (record { marks = marks; cells = map cellOf (unpack at cellWidths s.now) }) 0 senders }
@@ -206,6 +214,7 @@ fn tally_at(s: &[u8], at: usize) -> Tally
 }
 
 // The CHECKs and the SECONDs of an image; bytes of another length have none.
+#[tactic(auto, unfolding(formats::specs::InnerImages::tallyFrom))]
 pub fn checks_of(s: &[u8]) -> Tally
     ensures { result ≡ tallyFrom checksAt s.now }
 {
@@ -216,6 +225,7 @@ pub fn checks_of(s: &[u8]) -> Tally
     }
 }
 
+#[tactic(auto, unfolding(formats::specs::InnerImages::tallyFrom))]
 pub fn seconds_of(s: &[u8]) -> Tally
     ensures { result ≡ tallyFrom secondsAt s.now }
 {
@@ -236,6 +246,7 @@ fn held_code(marked: bool, e: Estimate) -> u32
     }
 }
 
+#[tactic(auto, unfolding(formats::specs::InnerImages::heldFrom))]
 fn put_cells(t: Tally, out: &mut [u8], at: usize)
     requires { at + total cellWidths ≤ length out.old }
     ensures { out.new ≡ packInto out.old at cellWidths (map cellCode (heldFrom t 0 senders)) }
@@ -274,6 +285,7 @@ fn put_changed(t: Tally, same: bool, out: &mut [u8], at: usize)
 }
 
 // Stores a state in an image; a buffer of another length keeps its bytes.
+#[tactic(auto, unfolding(formats::specs::InnerImages::inImage))]
 pub fn put_state(s: State, out: &mut [u8])
     ensures { out.new ≡ inImage (stateOver s) out.old }
 {
@@ -284,6 +296,7 @@ pub fn put_state(s: State, out: &mut [u8])
 }
 
 // Stores a state in an image, and of the tallies those that it does not have already; a buffer of another length keeps its bytes.
+#[tactic(auto, unfolding(formats::specs::InnerImages::inImage))]
 pub fn put_image(s: State, checks: Tally, seconds: Tally, out: &mut [u8])
     ensures { out.new ≡ inImage (imageOver s checks seconds) out.old }
 {

@@ -75,6 +75,7 @@ fn message_from(kind: KindRead, engine: EngineRead, s: &[u8]) -> MessageRead
 }
 
 // Refuses a wrong length with 1, and malformed contents, the empty message among them, with 4.
+#[tactic(auto, unfolding(formats::specs::Messages::readMessage))]
 pub fn read_message(s: &[u8]) -> MessageRead
     ensures { messageReading result ≡ readMessage today s.now }
 {
@@ -115,6 +116,7 @@ fn put_message(m: Message, out: &mut [u8])
 }
 
 // Zeros an output buffer of the right length, and leaves another.
+#[tactic(auto, unfolding(formats::specs::Messages::cleared))]
 pub fn clear(out: &mut [u8])
     ensures { out.new ≡ cleared today out.old }
 {
@@ -126,6 +128,7 @@ pub fn clear(out: &mut [u8])
 }
 
 // Stores a message that is known to be well formed, with no test of it; a buffer of another length keeps its bytes.
+#[tactic(auto, unfolding(formats::specs::InnerFormats::stored))]
 pub fn store_message(m: Message, out: &mut [u8])
     ensures { out.new ≡ stored (messageFormat today) m out.old }
 {
@@ -135,6 +138,7 @@ pub fn store_message(m: Message, out: &mut [u8])
 }
 
 // Refuses as reading would, and then leaves an empty message in a buffer of its length; another keeps its bytes.
+#[tactic(auto, unfolding(formats::specs::Messages::writeMessage))]
 pub fn write_message(m: Message, out: &mut [u8]) -> Refusal
     ensures { wrote (numberOf result) out.new ≡ writeMessage today m out.old }
 {
