@@ -36,6 +36,7 @@ pub fn key_on_call(engine: u32, n: u32, unit: u32, row: u32) -> CardCall
 }
 
 // `size` is the output buffer's length.
+#[tactic(auto, unfolding(cards::specs::InnerSteps::proposeAsks))]
 pub fn propose_call(engine: u32, n: u32, unit: u32, row: u32, mileage: u32, size: usize) -> CardCall
     ensures { result ≡ proposeAsks today engine n unit row mileage size }
 {
@@ -46,6 +47,7 @@ pub fn propose_call(engine: u32, n: u32, unit: u32, row: u32, mileage: u32, size
     card_call(engine, n, unit, row, Act::Step(s))
 }
 
+#[tactic(auto, unfolding(cards::specs::InnerSteps::deliverAsks, calls::specs::Calls::badMessage))]
 pub fn deliver_call(engine: u32, n: u32, unit: u32, message: &[u8], size: usize) -> CardCall
     ensures { result ≡ deliverAsks today engine n unit message.now size }
 {
@@ -62,6 +64,7 @@ pub fn deliver_call(engine: u32, n: u32, unit: u32, message: &[u8], size: usize)
 }
 
 // ---- what is told
+#[tactic(auto, unfolding(cards::specs::InnerSteps::putMessage))]
 fn put_message(m: Message, out: &mut [u8])
     ensures { out.new ≡ putMessage today m out.old }
 {

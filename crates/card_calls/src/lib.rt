@@ -17,6 +17,7 @@ use formats::{EngineRead, LogRead, StateRead};
 use tally::{Estimate, Refusal, limits};
 
 // ---- which row
+#[tactic(auto, unfolding(cards::specs::Calls::wrongCount))]
 fn wrong_count(count: usize) -> bool
     ensures { result ≡ wrongCount count }
 {
@@ -29,6 +30,7 @@ fn wide(x: u32) -> usize
     x as usize
 }
 
+#[tactic(auto, unfolding(cards::specs::Calls::namesNoRow))]
 fn names_no_row(count: usize, k: u32) -> bool
     ensures { result ≡ namesNoRow count k }
 {
@@ -60,6 +62,7 @@ fn is_malformed(act: Act) -> bool
 }
 
 // Why a call has no row; None where it has one.
+#[tactic(auto, unfolding(cards::specs::InnerSteps::front, cards::specs::InnerSteps::frontConditions, consensus::specs::Conditions::firstOf))]
 fn front(c: CardCall, count: usize) -> Refusal
     ensures { result ≡ front c count }
 {
@@ -77,6 +80,7 @@ fn front(c: CardCall, count: usize) -> Refusal
 }
 
 // Where the row of a call stands, or the count where there is none.
+#[tactic(auto, unfolding(cards::specs::InnerSteps::placeOf))]
 fn place(c: CardCall, count: usize) -> usize
     ensures { result ≡ placeOf c count }
 {
@@ -106,6 +110,7 @@ fn refused(c: CardCall, count: usize) -> Told
 
 // ---- the step of a row
 // Do the settings beside the card fit their types?
+#[tactic(auto, unfolding(calls::specs::InnerCalls::settingsNarrow))]
 fn narrow(c: CardCall) -> bool
     ensures { result ≡ settingsNarrow c.engine c.n c.unit c.row }
 {
@@ -113,6 +118,7 @@ fn narrow(c: CardCall) -> bool
 }
 
 // The settings beside the card, with the row's number as the entry.
+#[tactic(auto, unfolding(calls::specs::Calls::badSettings, calls::specs::InnerCalls::settingsNarrow))]
 fn settings_of(c: CardCall) -> SettingsRead
     ensures { result ≡ settingsRead c }
 {
@@ -136,6 +142,7 @@ fn settings_of(c: CardCall) -> SettingsRead
 }
 
 // The log of a row, of these settings.
+#[tactic(auto, unfolding(cards::specs::Calls::badRowLog, cards::specs::Rows::rowLog, cards::specs::Calls::otherRow))]
 fn own_log(c: CardCall, r: CardRow) -> LogRead
     ensures { result ≡ ownLog today c r }
 {
@@ -189,6 +196,7 @@ fn answered(row: CardRow, a: Answer) -> RowAnswer
     }
 }
 
+#[tactic(auto, unfolding(cards::specs::InnerSteps::stepConditions, cards::specs::InnerSteps::stepAnswer, cards::specs::InnerSteps::unlessRow, consensus::specs::Conditions::firstOf))]
 fn start(c: CardCall, r: CardRow) -> RowAnswer
     ensures { result ≡ actOf today Act.Start c r }
 {
@@ -214,6 +222,7 @@ fn key_on(c: CardCall, r: CardRow) -> RowAnswer
 }
 
 // A step of the unit that a log and a row's image make.
+#[tactic(auto, unfolding(cards::specs::InnerSteps::takes))]
 fn with_log(l: Log, r: CardRow, s: UnitStep) -> RowAnswer
     ensures { result ≡ withLog today s l r }
 {
@@ -244,6 +253,7 @@ fn on_unit(c: CardCall, r: CardRow, s: UnitStep) -> RowAnswer
 }
 
 // The step on a row.
+#[tactic(auto, unfolding(cards::specs::InnerSteps::stepOf, cards::specs::InnerSteps::stepConditions, cards::specs::InnerSteps::stepAnswer, cards::specs::InnerSteps::unlessRow, consensus::specs::Conditions::firstOf))]
 fn step_row(c: CardCall, r: CardRow) -> RowAnswer
     ensures { result ≡ stepOf today c r }
 {
@@ -271,6 +281,7 @@ fn told_of(a: RowAnswer) -> Told
 }
 
 // The row is copied out, the step taken, and the row stored back.
+#[tactic(auto, unfolding(cards::specs::InnerSteps::cardTold, cards::specs::InnerSteps::cardRows))]
 pub fn on_row(c: CardCall, rows: &mut [CardRow]) -> Told
     ensures { (result ≡ cardTold today c rows.old) × (rows.new ≡ cardRows today c rows.old) }
 {

@@ -22,6 +22,7 @@ use tally::{Cell, Engine, Refusal, Tally, limits};
 
 // ---- from a row
 // Does each number fit its bytes?
+#[tactic(auto, unfolding(calls::specs::InnerFields::logNarrow))]
 fn narrow(f: LogFields) -> bool
     ensures { result ≡ logNarrow today (numbersOf f) }
 {
@@ -32,6 +33,7 @@ fn narrow(f: LogFields) -> bool
         & codes::round_narrow(f.round)
 }
 
+#[tactic(auto, unfolding(calls::specs::InnerFields::logNarrow))]
 fn log_of(engine: Engine, f: LogFields) -> Log
     requires { logNarrow today (numbersOf f) ≡ true }
     ensures { result ≡ logOf engine (numbersOf f) }
@@ -53,6 +55,7 @@ fn log_of(engine: Engine, f: LogFields) -> Log
 }
 
 // The log of eight numbers, where they are well formed.
+#[tactic(auto, unfolding(calls::specs::InnerFields::logNarrow))]
 pub fn read_log(f: LogFields) -> LogRead
     ensures { result ≡ logReadOf (fromNumbers (logFormat today) (numbersOf f)) }
 {
@@ -78,6 +81,7 @@ fn marks_fit(f: TallyFields) -> bool
 }
 
 // Are all sixteen estimates blank?
+#[tactic(auto, unfolding(contents::specs::Images::every))]
 fn blanks(f: TallyFields) -> bool
     ensures { result ≡ every senders (λ u. isBlank (estimateOf (get_or f.estimates u 0))) }
 {
@@ -91,6 +95,7 @@ fn blanks(f: TallyFields) -> bool
 }
 
 // A tally without marks is tested in one pass.
+#[tactic(auto, unfolding(contents::specs::Images::every))]
 fn cells_ok(f: TallyFields, split: bool, n: u8) -> bool
     requires { f.marks < 2 ^ senders }
     ensures { result ≡ cellsOk today split n (rowTally f) }
@@ -108,6 +113,7 @@ fn cells_ok(f: TallyFields, split: bool, n: u8) -> bool
     ok
 }
 
+#[tactic(auto, unfolding(contents::specs::Images::tallyOk))]
 fn tally_ok(f: TallyFields, split: bool, engine: Engine, n: u8) -> bool
     requires { f.marks < 2 ^ senders }
     ensures { result ≡ tallyOk today split engine n (rowTally f) }
@@ -116,6 +122,7 @@ fn tally_ok(f: TallyFields, split: bool, engine: Engine, n: u8) -> bool
 }
 
 // Are the tallies, beside these first contents of an image, well formed, and does all of it fit the log?
+#[tactic(auto, unfolding(contents::specs::Images::fits))]
 fn fits(r: CardRow, front: Log, log: Log) -> bool
     ensures { result ≡ rowFits today r front log }
 {
@@ -220,6 +227,7 @@ const NO_TALLY: TallyFields = TallyFields {
 };
 
 // The row at a log's contents, without marks.
+#[tactic(auto, unfolding(tally::specs::Tally::noMarks))]
 pub fn unmarked(l: Log) -> CardRow
     ensures { result ≡ unmarkedRow l }
 {

@@ -1,0 +1,12 @@
+-- Key-on answers by what the row's log is read as. Assumes nothing.
+use Rattle.std.proofs.Common.{sym, ◌∙◌}
+use Rattle.tally.specs.Limits.{today}
+use Rattle.cards.proofs.Steps.{key-on-step}
+use Rattle.card_calls.proofs.key_on.Goals as goal
+
+pub returns-in-Refused : goal.returns-in-Refused
+returns-in-Refused c = rw (key-on-step today c.args.c c.args.r, sym c.own_log.ensures ∙ c.in-Refused.is) c.stays.ensures
+
+pub returns-in-Read : goal.returns-in-Read
+returns-in-Read c =
+    rw (key-on-step today c.args.c c.args.r, sym c.own_log.ensures ∙ c.in-Read.is, c.tells.ensures, c.unmarked.ensures)
