@@ -1,4 +1,4 @@
--- A call that is not refused before any row is read names a row, and it stands there. Assumes nothing.
+-- A call that is not refused before any row is read names a row. Assumes nothing.
 use Rattle.std.proofs.Common.{sym, ap, ◌∙◌, arith}
 use Rattle.tally.specs.Refusal.{numberOf}
 use Rattle.cards.proofs.Steps.{front-row}
