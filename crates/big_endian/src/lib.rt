@@ -1,5 +1,5 @@
 // Numbers in bytes, the highest byte first.
-#![tactic(auto)]
+#![tactic(auto, unfolding(formats::specs::Numbers::numAt, formats::specs::Numbers::bytesOf))]
 
 ghost use Rattle.std.specs.Prelude.{◌≡◌, [], ◌∷◌, ◌+◌, ◌≤◌, length};
 ghost use Rattle.std.proofs.lemmas.List.Edits.{sets};

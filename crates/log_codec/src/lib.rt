@@ -77,6 +77,7 @@ fn checked_log(log: Log) -> LogRead
 }
 
 // Refuses a wrong length with 1, and malformed contents with 2.
+#[tactic(auto, unfolding(formats::specs::Logs::readLog))]
 pub fn read_log(s: &[u8]) -> LogRead
     ensures { logReading result ≡ readLog today s.now }
 {
@@ -142,6 +143,7 @@ pub fn put_log(log: Log, out: &mut [u8])
 }
 
 // Stores a log that is known to be well formed, with no test of it; a buffer of another length keeps its bytes.
+#[tactic(auto, unfolding(formats::specs::InnerFormats::stored))]
 pub fn store_log(log: Log, out: &mut [u8])
     ensures { out.new ≡ stored (logFormat today) log out.old }
 {
@@ -151,6 +153,7 @@ pub fn store_log(log: Log, out: &mut [u8])
 }
 
 // Refuses as reading would, and then leaves every byte.
+#[tactic(auto, unfolding(formats::specs::Logs::writeLog))]
 pub fn write_log(log: Log, out: &mut [u8]) -> Refusal
     ensures { wrote (numberOf result) out.new ≡ writeLog today log out.old }
 {
