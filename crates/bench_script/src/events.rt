@@ -52,6 +52,7 @@ fn pair_of(n: u8, rest: &[u8]) -> PairRead
 }
 
 // The script letter decides the event.
+#[tactic(auto, unfolding(script::specs::Script::byLetter))]
 fn by_letter(n: u8, letter: u8, rest: &[u8]) -> ScriptEvent
     ensures { result ≡ byLetter n letter (parted comma rest.now) }
 {

@@ -59,6 +59,7 @@ fn value(s: &[u8]) -> u64
 }
 
 // A number of a script: 1 to 10 digits, no leading zero, at most 4,294,967,295.
+#[tactic(auto, unfolding(script::specs::Numbers::isNumber, script::specs::Numbers::readNumber))]
 pub fn read_number(s: &[u8]) -> NumberRead
     ensures { result ≡ readNumber s.now }
 {
