@@ -58,6 +58,7 @@ fn put_number(out: &mut [u8], at: usize, n: u32) -> usize
     put_digits(out, at, n, numbers::MAX_DIGITS)
 }
 
+#[tactic(auto, unfolding(crate::specs::Text::shownText))]
 fn put_shown(out: &mut [u8], at: usize, s: Shown) -> usize
     requires { at + length (shownText s) ≤ length out.old }
     ensures { Puts out.old at (shownText s) out.new result }
@@ -70,6 +71,7 @@ fn put_shown(out: &mut [u8], at: usize, s: Shown) -> usize
 }
 
 // A field and the byte after it.
+#[tactic(auto, unfolding(crate::specs::Text::fieldText))]
 fn put_field(out: &mut [u8], at: usize, s: Shown, b: u8) -> usize
     requires { at + length (fieldText s b) ≤ length out.old }
     ensures { Puts out.old at (fieldText s b) out.new result }
@@ -79,6 +81,7 @@ fn put_field(out: &mut [u8], at: usize, s: Shown, b: u8) -> usize
 }
 
 // Two fields of a line, and the byte after them.
+#[tactic(auto, unfolding(crate::specs::InnerText::twoText))]
 fn put_two(out: &mut [u8], at: usize, a: Shown, b: Shown, stop: u8) -> usize
     requires { at + length (twoText a b stop) ≤ length out.old }
     ensures { Puts out.old at (twoText a b stop) out.new result }
@@ -88,6 +91,7 @@ fn put_two(out: &mut [u8], at: usize, a: Shown, b: Shown, stop: u8) -> usize
 }
 
 // Three fields of a line, and the byte after them.
+#[tactic(auto, unfolding(crate::specs::InnerText::threeText))]
 fn put_three(out: &mut [u8], at: usize, a: Shown, b: Shown, c: Shown, stop: u8) -> usize
     requires { at + length (threeText a b c stop) ≤ length out.old }
     ensures { Puts out.old at (threeText a b c stop) out.new result }
@@ -96,6 +100,7 @@ fn put_three(out: &mut [u8], at: usize, a: Shown, b: Shown, c: Shown, stop: u8) 
     put_two(out, p, b, c, stop)
 }
 
+#[tactic(auto, unfolding(crate::specs::Text::headerText, crate::specs::InnerText::threeText, crate::specs::InnerText::twoText))]
 pub fn put_header(out: &mut [u8], at: usize, letter: u8, n: u32, entry: u32) -> usize
     requires { at + length (headerText letter n entry) ≤ length out.old }
     ensures { Puts out.old at (headerText letter n entry) out.new result }
@@ -110,6 +115,7 @@ pub fn put_header(out: &mut [u8], at: usize, letter: u8, n: u32, entry: u32) -> 
     )
 }
 
+#[tactic(auto, unfolding(crate::specs::Text::lineText, crate::specs::InnerText::threeText, crate::specs::InnerText::twoText))]
 pub fn put_line(out: &mut [u8], at: usize, line: ListingLine) -> usize
     requires { at + length (lineText line) ≤ length out.old }
     ensures { Puts out.old at (lineText line) out.new result }
@@ -148,6 +154,7 @@ fn put_text(out: &mut [u8], at: usize, s: &[u8]) -> usize
 }
 
 // The final line.
+#[tactic(auto, unfolding(crate::specs::Text::endText, crate::specs::InnerText::twoText))]
 pub fn put_end(out: &mut [u8], at: usize, events: u32, kept: u32) -> usize
     requires { at + length (endText events kept) ≤ length out.old }
     ensures { Puts out.old at (endText events kept) out.new result }

@@ -1,0 +1,11 @@
+-- As many digits as any number has. Assumes nothing.
+use Rattle.bench_text.specs.Text.{decimal}
+use Rattle.bench_text.proofs.put_number.Goals as goal
+
+pub put_digits-requires-clause-n_in_bounds : goal.put_digits-requires-clause-n_in_bounds
+unfolding decimal
+put_digits-requires-clause-n_in_bounds c = c.requires
+
+pub returns : goal.returns
+unfolding decimal
+returns c = c.put_digits.ensures
