@@ -13,7 +13,7 @@ use formats::{EngineRead, LogRead, MessageRead, StateRead};
 use tally::{Refusal, limits};
 
 // Starts a unit: writes its log and its image, and reads neither. The engine is its letter's number.
-#[tactic(auto, unfolding(calls::specs::Calls::startCall, calls::specs::InnerCalls::settingsNarrow, consensus::specs::Conditions::firstOf))]
+#[tactic(auto, unfolding(calls::specs::Calls::startCall, calls::specs::Calls::startCallConditions, calls::specs::Calls::badSettings, calls::specs::InnerCalls::settingsNarrow, consensus::specs::Conditions::firstOf, formats::specs::Messages::cleared))]
 pub fn start(engine: u32, n: u32, unit: u32, entry: u32, log: &mut [u8], image: &mut [u8]) -> u32
     ensures { called result log.new image.new [] blankCode
         ≡ startCall today engine n unit entry log.old image.old }

@@ -16,7 +16,7 @@ unfolding keyOnCall keyOnCallConditions firstOf cleared
 returns-in_default c =
     rw (
       sym c.wrong_lengths.ensures ∙ c.if-wrong_lengths.false,
-      log-refused today sane-today _ ? ?,
+      log-refused today sane-today _ c.in_default.field-0 c.in_default.ensures,
       c.number-in_default.ensures,
     )
 

@@ -14,7 +14,7 @@ unfolding startCall startCallConditions firstOf cleared
 returns-then-not-settings_narrow c =
     rw (
       sym c.wrong_lengths.ensures ∙ c.if-wrong_lengths.false,
-      settings-too-large _ _ _ _ (sym c.settings_narrow.ensures ∙ ?),
+      settings-too-large _ _ _ _ (sym c.settings_narrow.ensures ∙ c.if-not-settings_narrow.true),
       c.number-then-not-settings_narrow.ensures,
     )
 
@@ -24,8 +24,8 @@ returns c =
     let right = sym c.wrong_lengths.ensures ∙ c.if-wrong_lengths.false in
     rw (
       right,
-      ?,
-      sym c.settings_ok.ensures ∙ ?,
+      sym c.engine_of.ensures ∙ c.in-Is.is,
+      sym c.settings_ok.ensures ∙ c.if-not-settings_ok.false,
       c.number-2.ensures,
       c.store_log.ensures,
       c.store_unmarked.ensures,
