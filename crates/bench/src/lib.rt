@@ -83,6 +83,7 @@ pub fn page() -> [u8; MAX_LISTING]
 }
 
 // The listing of a script, in a buffer that must have room for any listing; the bytes past the listing stay.
+#[tactic(auto, unfolding(crate::specs::Listing::listingCall))]
 pub fn print(script: &[u8], out: &mut [u8]) -> Written
     ensures { printed result.number result.length out.new ≡ listingCall today script.now out.old }
 {

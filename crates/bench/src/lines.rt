@@ -42,6 +42,7 @@ fn decision_shown(d: Estimate) -> Shown
 }
 
 // The line of an event and what came of it.
+#[tactic(auto, unfolding(crate::specs::Listing::lineWith))]
 pub(crate) fn listing_line(index: u32, e: ScriptEvent, outcome: LineOutcome) -> ListingLine
     ensures { result ≡ lineWith index e outcome.refusal outcome.sent outcome.decision }
 {
@@ -59,6 +60,7 @@ pub(crate) fn listing_line(index: u32, e: ScriptEvent, outcome: LineOutcome) -> 
 }
 
 // The line of a malformed header.
+#[tactic(auto, unfolding(crate::specs::Listing::malformedLine))]
 pub(crate) fn malformed_line() -> ListingLine
     ensures { result ≡ malformedLine 0 }
 {

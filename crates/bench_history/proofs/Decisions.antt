@@ -38,7 +38,7 @@ unfolding decisions
 shown-decided n b lines w shows p here v e =
     let shown : Memᴰ (record { unit = eventUnit p.event; mileage = v }) (map withoutRound w.decided) =
     rw shows.decided (flat-in (λ (q : Played). decidedOf (eventUnit q.event) q.answer.decision) lines here (rw e (mathlib.Core.List.Memᴰ.head refl))) in
-    let d = mathlib.Core.List.Memᴰ.of-map withoutRound w.decided shown in
+    let d = mathlib.Core.List.Memᴰ.of_map withoutRound w.decided shown in
     (d.0, (d.1, ap (λ (x : ShownDecision). x.mileage) d.2))
 
 -- a proposal of the world is on an accepted line

@@ -32,6 +32,7 @@ fn fresh_unit(h: Header, unit: u8) -> Unit
 }
 
 // The units, each with its own number.
+#[tactic(auto, unfolding(bench_play::specs::Bench::freshUnits))]
 fn fresh_units(h: Header) -> [Unit; limits::SENDERS]
     ensures { result ≡ freshUnits h senders }
 {
@@ -45,6 +46,7 @@ fn fresh_units(h: Header) -> [Unit; limits::SENDERS]
     units
 }
 
+#[tactic(auto, unfolding(bench_play::specs::Bench::start))]
 pub fn start(h: Header) -> Bench
     ensures { result ≡ start h }
 {
@@ -94,6 +96,7 @@ pub fn event_place(e: ScriptEvent) -> usize
 // ---- what its unit answers
 
 // A delivery of message number k, which is m if it was sent: 9 and 10 come before the unit's own numbers.
+#[tactic(auto, unfolding(crate::specs::InnerTurns::turnDelivery, bench_play::specs::Play::deliveryConditions, consensus::specs::Methods::unless, consensus::specs::Conditions::firstOf))]
 fn turn_delivery(unit: Unit, kept: u32, m: Message, k: u32) -> Answer
     ensures { result ≡ turnDelivery today unit kept m k }
 {
@@ -108,6 +111,7 @@ fn turn_delivery(unit: Unit, kept: u32, m: Message, k: u32) -> Answer
 }
 
 // The key goes off after the log write: nothing is sent or decided.
+#[tactic(auto, unfolding(bench_play::specs::Play::cutShort))]
 fn cut_short(a: Answer) -> Answer
     ensures { result ≡ cutShort a }
 {
@@ -121,6 +125,7 @@ fn cut_short(a: Answer) -> Answer
 }
 
 // What the unit of an event answers, with that many messages kept, of which m stands at the event's place.
+#[tactic(auto, unfolding(crate::specs::InnerTurns::turn))]
 pub fn turn(unit: Unit, kept: u32, m: Message, e: ScriptEvent) -> Answer
     ensures { result ≡ turn today unit kept m e }
 {
@@ -164,6 +169,7 @@ fn accepted_outcome(sent: Sent, decision: Estimate) -> LineOutcome
     }
 }
 
+#[tactic(auto, unfolding(bench_play::specs::Bench::noPlaceLeft))]
 fn no_place_left(kept: u32) -> bool
     ensures { result ≡ noPlaceLeft kept }
 {
@@ -182,6 +188,7 @@ fn send_outcome(kept: u32, decision: Estimate) -> LineOutcome
 }
 
 // What comes of a unit's answer, with that many messages kept.
+#[tactic(auto, unfolding(crate::specs::InnerTurns::outcomeOf))]
 pub fn outcome_of(kept: u32, a: Answer) -> LineOutcome
     ensures { result ≡ outcomeOf kept a }
 {
