@@ -3,7 +3,7 @@
 
 ghost use Rattle.std.specs.Prelude.{◌≡◌, ◌<◌, ◌≤◌, List, ℕ, length, take, OnOk};
 ghost use Rattle.std.specs.Io.KnownBytes.{Appends, Consumes, IsAtEnd};
-ghost use Rattle.tally.specs.Limits.{today};
+ghost use Rattle.tally.specs.Limits.{today, scriptSize};
 ghost use Rattle.bench.specs.Listing.{listingCall};
 
 use std::io;
@@ -11,12 +11,11 @@ use std::io::{Read, Write};
 use tally::limits;
 
 // One byte more than a script may have, so that too long is seen.
-pub const READ_SIZE: usize = limits::SCRIPT_SIZE + 1;
+const READ_SIZE: usize = limits::SCRIPT_SIZE + 1;
 
 // Reads until the buffer is full or the reader is at its end; a read that fails ends it too. Says how many bytes there are.
 fn fill<R: Read>(from: &mut R, script: &mut [u8]) -> (usize, io::Result<()>)
     ensures within { result.0 ≤ length script.new }
-    ensures len { length script.new ≡ length script.old }
     ensures read { Consumes (R.remaining from.old) (R.remaining from.new) (take result.0 script.new) }
     ensures end { OnOk result.1 (result.0 < length script.new → IsAtEnd (R.remaining from.new)) }
 {
@@ -31,12 +30,12 @@ fn fill<R: Read>(from: &mut R, script: &mut [u8]) -> (usize, io::Result<()>)
     (at, Ok(()))
 }
 
-// The buffer holds the listing of what was read, where it has room for any listing (`bench::page`), also where a read or the write failed. Where
-// none did, all was read that a script may have, and one byte more, and the listing is what was written.
+// The buffer holds the listing of what was read, where it has room for any listing (`bench::page`). Where no read failed, what was read is all that
+// there was, or is too long for a script; where the write did not fail either, the listing is what was written.
 pub fn play<R: Read, W: Write>(from: &mut R, to: &mut W, out: &mut [u8]) -> io::Result<()>
     ensures { (s : List ℕ) × (out.new ≡ (listingCall today s out.old).out)
         × Consumes (R.remaining from.old) (R.remaining from.new) s
-        × OnOk result (length s < READ_SIZE → IsAtEnd (R.remaining from.new))
+        × OnOk result (length s ≤ scriptSize → IsAtEnd (R.remaining from.new))
         × OnOk result (Appends (W.contents to.old) (W.contents to.new) (take (listingCall today s out.old).written out.new)) }
 {
     let mut script = [0u8; READ_SIZE];

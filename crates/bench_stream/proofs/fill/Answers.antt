@@ -6,4 +6,4 @@ use Rattle.bench_stream.proofs.fill.Goals as goal
 pub loop-at-preserved : goal.loop-at-preserved
 loop-at-preserved g c =
     let read = c.in-Ok.ensures in
-    (search rules, search rules, read-on _ _ _ _ _ _ _ _ c.loop-at.invariant.1 read.bound.0 c.loop-at.invariant.2 read.bytes.0)
+    (search rules, read-on _ _ _ _ _ _ _ _ c.loop-at.invariant.0 read.bound.0 c.loop-at.invariant.1 read.bytes.0)
