@@ -196,7 +196,7 @@ fn answered(row: CardRow, a: Answer) -> RowAnswer
     }
 }
 
-#[tactic(auto, unfolding(cards::specs::InnerSteps::stepConditions, cards::specs::InnerSteps::stepAnswer, cards::specs::InnerSteps::unlessRow, consensus::specs::Conditions::firstOf))]
+#[tactic(auto, unfolding(cards::specs::InnerSteps::stepConditions, cards::specs::InnerSteps::unlessRow, consensus::specs::Conditions::firstOf))]
 fn start(c: CardCall, r: CardRow) -> RowAnswer
     ensures { result ≡ actOf today Act.Start c r }
 {
@@ -222,7 +222,6 @@ fn key_on(c: CardCall, r: CardRow) -> RowAnswer
 }
 
 // A step of the unit that a log and a row's image make.
-#[tactic(auto, unfolding(cards::specs::InnerSteps::takes))]
 fn with_log(l: Log, r: CardRow, s: UnitStep) -> RowAnswer
     ensures { result ≡ withLog today s l r }
 {
@@ -253,7 +252,7 @@ fn on_unit(c: CardCall, r: CardRow, s: UnitStep) -> RowAnswer
 }
 
 // The step on a row.
-#[tactic(auto, unfolding(cards::specs::InnerSteps::stepOf, cards::specs::InnerSteps::stepConditions, cards::specs::InnerSteps::stepAnswer, cards::specs::InnerSteps::unlessRow, consensus::specs::Conditions::firstOf))]
+#[tactic(auto, unfolding(cards::specs::InnerSteps::stepOf))]
 fn step_row(c: CardCall, r: CardRow) -> RowAnswer
     ensures { result ≡ stepOf today c r }
 {

@@ -9,6 +9,7 @@ use contents::Message;
 use tally::limits;
 
 // Do the numbers of a start fit their types?
+#[tactic(auto, unfolding(calls::specs::InnerCalls::settingsNarrow))]
 pub(crate) fn settings_narrow(engine: u32, n: u32, unit: u32, entry: u32) -> bool
     ensures { result ≡ settingsNarrow engine n unit entry }
 {
@@ -16,6 +17,7 @@ pub(crate) fn settings_narrow(engine: u32, n: u32, unit: u32, entry: u32) -> boo
 }
 
 // Is the length of a unit's log or image wrong?
+#[tactic(auto, unfolding(calls::specs::Calls::unitLengths))]
 pub(crate) fn wrong_lengths(log: &[u8], image: &[u8]) -> bool
     ensures { result ≡ unitLengths today log.now image.now }
 {
@@ -23,6 +25,7 @@ pub(crate) fn wrong_lengths(log: &[u8], image: &[u8]) -> bool
 }
 
 // Stores a message in a cleared buffer, which holds the empty message already.
+#[tactic(auto, unfolding(calls::specs::InnerCalls::storedMessage))]
 fn put_message(m: Message, out: &mut [u8])
     ensures { out.new ≡ storedMessage m out.old }
 {
@@ -34,6 +37,7 @@ fn put_message(m: Message, out: &mut [u8])
 }
 
 // Stores what a proposal answers, unless it refuses: no log, and of the image its state alone.
+#[tactic(auto, unfolding(calls::specs::InnerCalls::storedProposal))]
 pub(crate) fn put_proposal(a: Answer, image: &mut [u8], out: &mut [u8]) -> u32
     ensures { called result [] image.new out.new blankCode
         ≡ storedProposal a image.old out.old }
@@ -48,6 +52,7 @@ pub(crate) fn put_proposal(a: Answer, image: &mut [u8], out: &mut [u8]) -> u32
 }
 
 // Stores what a delivery answers, unless it refuses.
+#[tactic(auto, unfolding(calls::specs::InnerCalls::storedAnswer))]
 pub(crate) fn put_answer(
     a: Answer,
     log: &mut [u8],

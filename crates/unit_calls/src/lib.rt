@@ -13,6 +13,7 @@ use formats::{EngineRead, LogRead, MessageRead, StateRead};
 use tally::{Refusal, limits};
 
 // Starts a unit: writes its log and its image, and reads neither. The engine is its letter's number.
+#[tactic(auto, unfolding(calls::specs::Calls::startCall, calls::specs::Calls::startCallConditions, calls::specs::Calls::badSettings, calls::specs::InnerCalls::settingsNarrow, consensus::specs::Conditions::firstOf, formats::specs::Messages::cleared))]
 pub fn start(engine: u32, n: u32, unit: u32, entry: u32, log: &mut [u8], image: &mut [u8]) -> u32
     ensures { called result log.new image.new [] blankCode
         ≡ startCall today engine n unit entry log.old image.old }
@@ -42,6 +43,7 @@ pub fn start(engine: u32, n: u32, unit: u32, entry: u32, log: &mut [u8], image: 
 }
 
 // Key-on: writes the image that the log gives, and does not read what it held.
+#[tactic(auto, unfolding(calls::specs::Calls::keyOnCall, calls::specs::Calls::keyOnCallConditions, consensus::specs::Conditions::firstOf, formats::specs::Messages::cleared, calls::specs::Calls::badLog, consensus::specs::Step::recovered, consensus::specs::Units::downUnit, consensus::specs::Units::atLog))]
 pub fn key_on(log: &[u8], image: &mut [u8]) -> u32
     ensures { called result log.now image.new [] blankCode ≡ keyOnCall today log.now image.old }
 {
@@ -56,6 +58,7 @@ pub fn key_on(log: &[u8], image: &mut [u8]) -> u32
 }
 
 // Proposes a mileage: writes the image and a message, and no log.
+#[tactic(auto, unfolding(calls::specs::Calls::proposeCall, calls::specs::Calls::proposeCallConditions, consensus::specs::Conditions::firstOf))]
 pub fn propose(log: &[u8], image: &mut [u8], mileage: u32, out: &mut [u8]) -> u32
     ensures { called result log.now image.new out.new blankCode
         ≡ proposeCall today log.now image.old mileage out.old }
@@ -81,6 +84,7 @@ pub fn propose(log: &[u8], image: &mut [u8], mileage: u32, out: &mut [u8]) -> u3
 }
 
 // Delivers a message: where nothing is refused, writes log, image and message. The decision is always written.
+#[tactic(auto, unfolding(calls::specs::Calls::deliverCall, calls::specs::Calls::deliverCallConditions, consensus::specs::Conditions::firstOf))]
 pub fn deliver(
     log: &mut [u8],
     image: &mut [u8],

@@ -1,2 +1,0 @@
-pub mod RowCall
-pub mod BareCall

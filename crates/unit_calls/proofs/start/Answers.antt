@@ -1,0 +1,36 @@
+-- A unit's start: settings too large for their fields are out of range; else the log and the image stored are those of the fresh unit. Assumes nothing.
+use Rattle.std.proofs.Common.{◌≡◌, sym, ◌∙◌, rules}
+use Rattle.tally.specs.Limits.{today}
+use Rattle.formats.specs.Messages.{cleared}
+use Rattle.consensus.specs.Conditions.{firstOf}
+use Rattle.consensus.specs.Step.{fresh}
+use Rattle.consensus.specs.Units.{atLog}
+use Rattle.calls.specs.Calls.{badSettings, startCallConditions, startCall}
+use Rattle.calls.proofs.Entries.{settings-too-large, log-stored, image-stored, unit-sizes}
+use Rattle.unit_calls.proofs.start.Goals as goal
+
+pub returns-then-not-settings_narrow : goal.returns-then-not-settings_narrow
+unfolding startCall startCallConditions firstOf cleared
+returns-then-not-settings_narrow c =
+    rw (
+      sym c.wrong_lengths.ensures ∙ c.if-wrong_lengths.false,
+      settings-too-large _ _ _ _ (sym c.settings_narrow.ensures ∙ c.if-not-settings_narrow.true),
+      c.number-then-not-settings_narrow.ensures,
+    )
+
+pub returns : goal.returns
+unfolding startCall startCallConditions firstOf badSettings fresh atLog
+returns c =
+    let right = sym c.wrong_lengths.ensures ∙ c.if-wrong_lengths.false in
+    rw (
+      right,
+      sym c.engine_of.ensures ∙ c.in-Is.is,
+      sym c.settings_ok.ensures ∙ c.if-not-settings_ok.false,
+      c.number-2.ensures,
+      c.store_log.ensures,
+      c.store_unmarked.ensures,
+      log-stored today _ c.args.log.now (unit-sizes today _ _ right).0,
+      image-stored today _ c.args.image.now (unit-sizes today _ _ right).1,
+      c.log-l.ensures,
+      c.fresh.ensures,
+    )
