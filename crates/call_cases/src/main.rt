@@ -1,9 +1,10 @@
-// The scope paper's worked cases through the C entries: its listing, the examples of the numbers 1 to 7, and the last rounds. What is
-// printed is held to the file `stdout`.
+// The scope paper's worked cases through the calls that the C entries hand on (`mileage`): its listing, the examples of the numbers 1 to 7, and
+// the last rounds. What is printed is held to the file `stdout`.
 #![tactic(auto)]
 
 mod show;
 
+use std::io;
 use tally::limits;
 
 const B: u32 = b'B' as u32;
@@ -35,7 +36,7 @@ fn put_log(unit: u32, round: u32, log: &mut [u8; limits::LOG_SIZE]) {
         limits::BLANK,
         limits::BLANK,
     ];
-    mileage::mileage_write_log(&fields, log);
+    fields::write_log(&fields, log);
 }
 
 // A message in B, n = 3, entry 7.
@@ -49,45 +50,47 @@ fn put_message(
     message: &mut [u8; limits::MESSAGE_SIZE],
 ) {
     let fields = [kind, B, 3, sender, receiver, 7, round, estimate, proposal];
-    mileage::mileage_write_message(&fields, message);
+    fields::write_message(&fields, message);
 }
 
 // The listing's events at unit 1: unit 0's FIRST and CHECK come to it, then its own CHECK, which it answers with SECOND.
-fn unit_1(
+fn unit_1<P: Print>(
+    rt: &P,
     first: &[u8; limits::MESSAGE_SIZE],
     check0: &[u8; limits::MESSAGE_SIZE],
     check1: &mut [u8; limits::MESSAGE_SIZE],
     second1: &mut [u8; limits::MESSAGE_SIZE],
-) {
+) -> io::Result<()> {
     let mut log = [JUNK; limits::LOG_SIZE];
     let mut image = [JUNK; limits::IMAGE_SIZE];
     let mut out = [JUNK; limits::MESSAGE_SIZE];
-    show::start(b"B,3,7 unit 1", B, 3, 1, 7, &mut log, &mut image);
-    show::deliver(b"D,1,0", &mut log, &mut image, first, check1);
-    show::deliver(b"D,1,1", &mut log, &mut image, check0, &mut out);
-    show::deliver(b"D,1,2", &mut log, &mut image, check1, second1);
+    show::start(rt, "B,3,7 unit 1", B, 3, 1, 7, &mut log, &mut image)?;
+    show::deliver(rt, "D,1,0", &mut log, &mut image, first, check1)?;
+    show::deliver(rt, "D,1,1", &mut log, &mut image, check0, &mut out)?;
+    show::deliver(rt, "D,1,2", &mut log, &mut image, check1, second1)
 }
 
 // Its last events, at unit 2: the SECOND of unit 1 and the CHECKs of units 0 and 1 come to it, then its own SECOND.
-fn unit_2(
+fn unit_2<P: Print>(
+    rt: &P,
     check0: &[u8; limits::MESSAGE_SIZE],
     check1: &[u8; limits::MESSAGE_SIZE],
     second1: &[u8; limits::MESSAGE_SIZE],
-) {
+) -> io::Result<()> {
     let mut log = [JUNK; limits::LOG_SIZE];
     let mut image = [JUNK; limits::IMAGE_SIZE];
     let mut second2 = [JUNK; limits::MESSAGE_SIZE];
     let mut out = [JUNK; limits::MESSAGE_SIZE];
-    show::start(b"B,3,7 unit 2", B, 3, 2, 7, &mut log, &mut image);
-    show::deliver(b"D,2,3", &mut log, &mut image, second1, &mut out);
-    show::deliver(b"D,2,1", &mut log, &mut image, check0, &mut out);
-    show::deliver(b"D,2,2", &mut log, &mut image, check1, &mut second2);
-    show::deliver(b"D,2,4", &mut log, &mut image, &second2, &mut out);
+    show::start(rt, "B,3,7 unit 2", B, 3, 2, 7, &mut log, &mut image)?;
+    show::deliver(rt, "D,2,3", &mut log, &mut image, second1, &mut out)?;
+    show::deliver(rt, "D,2,1", &mut log, &mut image, check0, &mut out)?;
+    show::deliver(rt, "D,2,2", &mut log, &mut image, check1, &mut second2)?;
+    show::deliver(rt, "D,2,4", &mut log, &mut image, &second2, &mut out)
 }
 
 // The listing, its events at unit 0 here. A cut delivery (W) is the call, and then the key goes off: its log stays, its image and message are
 // lost.
-fn listing() {
+fn listing<P: Print>(rt: &P) -> io::Result<()> {
     let mut log = [JUNK; limits::LOG_SIZE];
     let mut image = [JUNK; limits::IMAGE_SIZE];
     let mut first = [JUNK; limits::MESSAGE_SIZE];
@@ -95,146 +98,163 @@ fn listing() {
     let mut check1 = [JUNK; limits::MESSAGE_SIZE];
     let mut second1 = [JUNK; limits::MESSAGE_SIZE];
     let mut out = [JUNK; limits::MESSAGE_SIZE];
-    show::start(b"B,3,7 unit 0", B, 3, 0, 7, &mut log, &mut image);
-    show::propose(b"P,0,412077", &log, &mut image, 412077, &mut first);
-    show::deliver(b"D,0,0", &mut log, &mut image, &first, &mut check0);
-    unit_1(&first, &check0, &mut check1, &mut second1);
-    show::deliver(b"D,0,1", &mut log, &mut image, &check0, &mut out);
-    show::deliver(b"W,0,2", &mut log, &mut image, &check1, &mut out);
+    show::start(rt, "B,3,7 unit 0", B, 3, 0, 7, &mut log, &mut image)?;
+    show::propose(rt, "P,0,412077", &log, &mut image, 412077, &mut first)?;
+    show::deliver(rt, "D,0,0", &mut log, &mut image, &first, &mut check0)?;
+    unit_1(rt, &first, &check0, &mut check1, &mut second1)?;
+    show::deliver(rt, "D,0,1", &mut log, &mut image, &check0, &mut out)?;
+    show::deliver(rt, "W,0,2", &mut log, &mut image, &check1, &mut out)?;
     image = [JUNK; limits::IMAGE_SIZE];
-    show::title(b"D,0,3: the unit is down, there is no call");
-    show::key_on(b"U,0", &log, &mut image);
-    unit_2(&check0, &check1, &second1);
+    show::title(rt, "D,0,3: the unit is down, there is no call")?;
+    show::key_on(rt, "U,0", &log, &mut image)?;
+    unit_2(rt, &check0, &check1, &second1)
 }
 
 // The table's examples of 1, 2, 4 and 5. An output buffer holds other bytes before.
-fn examples() {
+fn examples<P: Print>(rt: &P) -> io::Result<()> {
     let mut log = [JUNK; limits::LOG_SIZE];
     let mut image = [JUNK; limits::IMAGE_SIZE];
     let mut m = [JUNK; limits::MESSAGE_SIZE];
     let mut out = [JUNK; limits::MESSAGE_SIZE];
     let short = [70u8, 66, 3, 0, 255, 0, 0, 7, 0, 0, 0, 0, 0, 5, 0, 0, 0];
-    show::start(b"2: n = 2", B, 2, 0, 7, &mut log, &mut image);
-    show::start(b"unit 2 of 3", B, 3, 2, 7, &mut log, &mut image);
+    show::start(rt, "2: n = 2", B, 2, 0, 7, &mut log, &mut image)?;
+    show::start(rt, "unit 2 of 3", B, 3, 2, 7, &mut log, &mut image)?;
     show::deliver_short(
-        b"1: message of 17 bytes",
+        rt,
+        "1: message of 17 bytes",
         &mut log,
         &mut image,
         &short,
         &mut out,
-    );
+    )?;
     put_message(F, 0, EVERYONE, 0, 5, 5, &mut m);
     m[0] = b'Z';
     out = [JUNK; limits::MESSAGE_SIZE];
-    show::deliver(b"4: kind letter Z", &mut log, &mut image, &m, &mut out);
+    show::deliver(rt, "4: kind letter Z", &mut log, &mut image, &m, &mut out)?;
     put_message(K, 0, 1, 4, limits::BLANK, limits::BLANK, &mut m);
     out = [JUNK; limits::MESSAGE_SIZE];
     show::deliver(
-        b"5: K for unit 1, handed to 2",
+        rt,
+        "5: K for unit 1, handed to 2",
         &mut log,
         &mut image,
         &m,
         &mut out,
-    );
+    )
 }
 
 // Of 6, and 9,999,999 beside it.
-fn mileages() {
+fn mileages<P: Print>(rt: &P) -> io::Result<()> {
     let mut log = [JUNK; limits::LOG_SIZE];
     let mut image = [JUNK; limits::IMAGE_SIZE];
     let mut out = [JUNK; limits::MESSAGE_SIZE];
     put_log(2, 0, &mut log);
-    show::key_on(b"unit 2 at round 0", &log, &mut image);
+    show::key_on(rt, "unit 2 at round 0", &log, &mut image)?;
     show::propose(
-        b"6: 10,000,000",
+        rt,
+        "6: 10,000,000",
         &log,
         &mut image,
         limits::MAX_MILEAGE + 1,
         &mut out,
-    );
+    )?;
     show::propose(
-        b"9,999,999 is accepted",
+        rt,
+        "9,999,999 is accepted",
         &log,
         &mut image,
         limits::MAX_MILEAGE,
         &mut out,
-    );
+    )
 }
 
 // Of 3.
-fn image_behind() {
+fn image_behind<P: Print>(rt: &P) -> io::Result<()> {
     let mut log = [JUNK; limits::LOG_SIZE];
     let mut image = [JUNK; limits::IMAGE_SIZE];
     let mut m = [JUNK; limits::MESSAGE_SIZE];
     let mut out = [JUNK; limits::MESSAGE_SIZE];
     put_log(2, 3, &mut log);
-    show::key_on(b"unit 2 at round 3", &log, &mut image);
+    show::key_on(rt, "unit 2 at round 3", &log, &mut image)?;
     put_log(2, 4, &mut log);
     put_message(F, 0, EVERYONE, 4, 5, 5, &mut m);
     show::deliver(
-        b"3: log at round 4, image at 3",
+        rt,
+        "3: log at round 4, image at 3",
         &mut log,
         &mut image,
         &m,
         &mut out,
-    );
+    )
 }
 
 // A SECOND with mileage 5.
-fn second(
-    name: &[u8],
+fn second<P: Print>(
+    rt: &P,
+    name: &str,
     sender: u32,
     round: u32,
     log: &mut [u8; limits::LOG_SIZE],
     image: &mut [u8; limits::IMAGE_SIZE],
-) {
+) -> io::Result<()> {
     let mut m = [JUNK; limits::MESSAGE_SIZE];
     let mut out = [JUNK; limits::MESSAGE_SIZE];
     put_message(S, sender, EVERYONE, round, 5, limits::BLANK, &mut m);
-    show::deliver(name, log, image, &m, &mut out);
+    show::deliver(rt, name, log, image, &m, &mut out)
 }
 
 // Round 9,998 is closed, with a decision; round 9,999 is not: the example of 7.
-fn last_rounds() {
+fn last_rounds<P: Print>(rt: &P) -> io::Result<()> {
     let mut log = [JUNK; limits::LOG_SIZE];
     let mut image = [JUNK; limits::IMAGE_SIZE];
     put_log(0, BEFORE_LAST, &mut log);
-    show::key_on(b"unit 0 at round 9,998", &log, &mut image);
+    show::key_on(rt, "unit 0 at round 9,998", &log, &mut image)?;
     second(
-        b"SECOND of unit 1 in 9,998",
+        rt,
+        "SECOND of unit 1 in 9,998",
         1,
         BEFORE_LAST,
         &mut log,
         &mut image,
-    );
+    )?;
     second(
-        b"SECOND of unit 2 in 9,998",
+        rt,
+        "SECOND of unit 2 in 9,998",
         2,
         BEFORE_LAST,
         &mut log,
         &mut image,
-    );
-    second(b"SECOND of unit 1 in 9,999", 1, LAST, &mut log, &mut image);
+    )?;
     second(
-        b"7: n = 3, B, one mark there, another comes",
-        2,
-        LAST,
-        &mut log,
-        &mut image,
-    );
-    second(
-        b"SECOND of unit 1 in 9,999 again",
+        rt,
+        "SECOND of unit 1 in 9,999",
         1,
         LAST,
         &mut log,
         &mut image,
-    );
+    )?;
+    second(
+        rt,
+        "7: n = 3, B, one mark there, another comes",
+        2,
+        LAST,
+        &mut log,
+        &mut image,
+    )?;
+    second(
+        rt,
+        "SECOND of unit 1 in 9,999 again",
+        1,
+        LAST,
+        &mut log,
+        &mut image,
+    )
 }
 
-fn main() {
-    listing();
-    examples();
-    mileages();
-    image_behind();
-    last_rounds();
+fn main(rt: HostRuntime) -> io::Result<()> {
+    listing(&rt)?;
+    examples(&rt)?;
+    mileages(&rt)?;
+    image_behind(&rt)?;
+    last_rounds(&rt)
 }
