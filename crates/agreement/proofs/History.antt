@@ -22,7 +22,7 @@ use Rattle.contents.specs.declared.Kind.TheVariants.{Empty, First, Check, Second
 use Rattle.contents.specs.declared.Message.{Message}
 use Rattle.consensus.specs.Methods.{propose, deliver, keyOff, keyOn}
 use Rattle.consensus.specs.Sound.{From, Sound}
-use Rattle.consensus.specs.Step.{fresh, proposed}
+use Rattle.consensus.specs.Step.{fresh}
 use Rattle.consensus.specs.Units.{WellFormed, atLog}
 use Rattle.consensus.specs.declared.Answer.{Answer}
 use Rattle.consensus.specs.declared.Unit as U

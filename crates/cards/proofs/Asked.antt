@@ -1,7 +1,7 @@
 -- What the calls ask of a row, and what is told, is the call's definition. Assumes nothing.
 use Prim.Native.Nat.{ℕ, ◌-◌, ◌<◌}
 use mathlib.Core.Path.{◌≡◌, refl, sym, ap, ◌∙◌}
-use mathlib.Core.Bool.{Bool, true, false, not, cond, ◌||◌}
+use mathlib.Core.Bool.{Bool, true, false, cond, ◌||◌}
 use mathlib.Core.List.{List, [], ◌∷◌, ◌++◌}
 use native.Mathlib.Omega.{arith}
 use lib.Dec.{eqb}
@@ -20,13 +20,13 @@ use Rattle.contents.specs.declared.Message.{Message}
 use Rattle.formats.specs.Formats.{reading}
 use Rattle.formats.specs.InnerFormats.{stored}
 use Rattle.formats.specs.Messages.{messageFormat, readMessage, cleared}
-use Rattle.consensus.specs.Conditions.{Condition, condition, firstOf}
+use Rattle.consensus.specs.Conditions.{Condition, firstOf}
 use Rattle.consensus.specs.Methods.{proposeConditions, deliverConditions}
 use Rattle.consensus.specs.Step.{proposed, sendFirst}
 use Rattle.consensus.specs.declared.Answer.{Answer}
 use Rattle.calls.specs.Calls.{wrongLength, badMessage, messageBytes}
 use Rattle.calls.proofs.Entries.{message-ok}
-use Rattle.cards.specs.Calls.{CardAnswer, cardCalled, unlessCard, answeredCard, wrongCount, namesNoRow, rowAt, beside, cardStartConditions, cardStartCall}
+use Rattle.cards.specs.Calls.{CardAnswer, cardCalled, unlessCard, answeredCard, wrongCount, rowAt, beside, cardStartConditions, cardStartCall}
 use Rattle.cards.specs.Calls.{cardKeyOnConditions, cardKeyOnCall, cardProposeConditions, cardProposeCall, cardDeliverConditions, cardDeliverCall}
 use Rattle.cards.specs.InnerSteps.{stepConditions, unitConditions, unitAnswer, stepAnswer, tells, told, rowAnswer, unlessRow, stepOf}
 use Rattle.cards.specs.InnerSteps.{frontConditions, front, cardTold, cardRows, cardCall, proposeAsks, deliverAsks, putMessage, toldCard}

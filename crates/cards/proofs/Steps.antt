@@ -3,7 +3,7 @@ use Prim.Native.Nat.{ℕ, zero, suc, ◌≤◌, ◌<◌, ◌+◌, ◌-◌}
 use mathlib.Core.Path.{◌≡◌, refl, sym, ap, ◌∙◌}
 use mathlib.Core.Bool.{Bool, true, false, not, cond, ◌&&◌, ◌||◌}
 use mathlib.Core.List.{List, [], ◌∷◌, ◌++◌, map}
-use mathlib.Core.Option.{none, some}
+use mathlib.Core.Option.{none}
 use native.Mathlib.Numerals.{add-one}
 use native.Mathlib.Omega.{arith}
 use lib.Dec.{eqb, leb}
@@ -24,7 +24,7 @@ use Rattle.contents.specs.declared.State.{State}
 use Rattle.contents.proofs.Tests.{both-true}
 use Rattle.formats.specs.Codes.{engineOf, withEngine, estimateOf}
 use Rattle.formats.specs.Formats.{ReadAnswer, reading, checked, fromNumbers}
-use Rattle.formats.specs.Images.{cellOf, imageFormat, noImage}
+use Rattle.formats.specs.Images.{cellOf, imageFormat}
 use Rattle.formats.specs.InnerImages.{fitState}
 use Rattle.formats.specs.Logs.{logFormat, logOf, noLog}
 use Rattle.formats.specs.declared.EngineRead.{EngineRead}

@@ -5,7 +5,6 @@ use Rattle.contents.specs.declared.State.{State}
 use Rattle.formats.specs.Codes.{engineOf, codeOf}
 use Rattle.formats.specs.Formats.{numbersIn}
 use Rattle.formats.specs.declared.EngineRead.{EngineRead}
-use Rattle.formats.specs.declared.EngineRead.TheVariants.{Unknown}
 use Rattle.formats.specs.Numbers.{numAt}
 use Rattle.formats.specs.Logs.{logZero, logFormat}
 use Rattle.formats.specs.InnerNumbers.{total}

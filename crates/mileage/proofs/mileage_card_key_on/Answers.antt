@@ -1,5 +1,4 @@
 -- What is asked of the row is the call. Assumes nothing.
-use Rattle.std.proofs.Common.{sym, ◌∙◌}
 use Rattle.cards.proofs.Asked.{key-on-asked}
 use Rattle.mileage.proofs.mileage_card_key_on.Goals as goal
 

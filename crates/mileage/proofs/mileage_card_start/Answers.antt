@@ -1,5 +1,4 @@
 -- What is asked of the row is the call. Assumes nothing.
-use Rattle.std.proofs.Common.{sym, ◌∙◌}
 use Rattle.cards.proofs.Asked.{start-asked}
 use Rattle.mileage.proofs.mileage_card_start.Goals as goal
 

@@ -1,5 +1,4 @@
-use Rattle.std.proofs.Common.{◌≡◌, sym, ◌∙◌, refl, arith}
-use Rattle.tally.specs.Limits.{senders}
+use Rattle.std.proofs.Common.{sym, ◌∙◌, arith}
 use Rattle.tally.specs.Gathered.{firstPassing, leads}
 use Rattle.tally.specs.Tally.{gathered, gatheredFrom}
 use Rattle.tally.proofs.Tallies.{first-step}

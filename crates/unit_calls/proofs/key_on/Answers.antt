@@ -1,8 +1,7 @@
 -- A log that is not read refuses key-on; else the image stored is that of the log. Assumes nothing.
-use Rattle.std.proofs.Common.{◌≡◌, sym, ap, ◌∙◌}
+use Rattle.std.proofs.Common.{sym, ◌∙◌}
 use Rattle.tally.specs.Limits.{today}
 use Rattle.tally.proofs.Bounds.{sane-today}
-use Rattle.formats.specs.Logs.{logReading}
 use Rattle.formats.specs.Messages.{cleared}
 use Rattle.consensus.specs.Conditions.{firstOf}
 use Rattle.consensus.specs.Step.{recovered}

@@ -1,5 +1,5 @@
 -- A log or an image that is not read refuses the proposal; else what is stored is that of the unit read. Assumes nothing.
-use Rattle.std.proofs.Common.{◌≡◌, ◌<◌, ℕ, get_or, sym, ◌∙◌, rules, arith}
+use Rattle.std.proofs.Common.{◌<◌, ℕ, get_or, sym, ◌∙◌, rules}
 use Rattle.tally.specs.Limits.{today}
 use Rattle.tally.proofs.Bounds.{sane-today}
 use Rattle.consensus.specs.Conditions.{firstOf}

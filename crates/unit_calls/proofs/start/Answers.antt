@@ -1,5 +1,5 @@
 -- A unit's start: settings too large for their fields are out of range; else the log and the image stored are those of the fresh unit. Assumes nothing.
-use Rattle.std.proofs.Common.{◌≡◌, sym, ◌∙◌, rules}
+use Rattle.std.proofs.Common.{sym, ◌∙◌}
 use Rattle.tally.specs.Limits.{today}
 use Rattle.formats.specs.Messages.{cleared}
 use Rattle.consensus.specs.Conditions.{firstOf}

@@ -20,8 +20,8 @@ pub loop-s-preserved : goal.loop-s-preserved
 loop-s-preserved c =
     let step = rw (← c.is_marked.ensures) at (after-step c.loop-s.all c.args.self c.loop-s.s c.loop-s-test.true) in
     elim c.if-is_marked.branch [
-      then-is_marked+then-agrees w ↦
-        let turn = rw (w.if-is_marked.true, ← w.agrees.ensures, w.if-agrees.true) at step in (omega arith, rw w.all-is (sym turn ∙ c.loop-s.invariant.1))
+      | then-is_marked+then-agrees w ↦
+          let turn = rw (w.if-is_marked.true, ← w.agrees.ensures, w.if-agrees.true) at step in (omega arith, rw w.all-is (sym turn ∙ c.loop-s.invariant.1))
       | else-is_marked w ↦ let turn = rw w.if-is_marked.false at step in (omega arith, rw w.all-is (sym turn ∙ c.loop-s.invariant.1))
     ]
 
