@@ -8,8 +8,8 @@ to = $(DESTDIR)$(prefix)
 
 archive = target/staticlib/libmileage.a
 program = target/bin/mileage_bench
-# folders too: a file that is gone counts as a change
-sources := $(shell find crates crates.txt)
+# folders too: a file that is gone counts as a change; out/ is what rt keeps of its work
+sources := $(shell find crates crates.txt -name out -prune -o -print)
 version := $(shell sed -n 's/^.define MILEAGE_VERSION UINT32_C(\(.*\))$$/\1/p' include/mileage.h)
 
 define help
@@ -18,7 +18,7 @@ make all                    proves and builds $(archive) and $(program);
 make test                   the whole gate: all proofs from nothing, all tests (bash .ci/run)
 make install PREFIX=FOLDER  all, and then header, archive, bench program and mileage.pc for pkg-config below FOLDER
                             (now $(prefix); DESTDIR is put before it)
-make clean                  removes target/, all that was built
+make clean                  removes target/ and crates/*/out, all that was built
 endef
 export help
 
@@ -29,16 +29,19 @@ help:
 
 all: $(archive) $(program)
 
-# rt leaves alone what is as it was: the time shows that it was looked at
+# for every x86-64, with SSE2 alone
 $(archive): $(sources)
-	rt staticlib mileage
-	touch $@
+	cd crates/mileage && rt lib --cpu=x86-64
+	$(INSTALL) -d $(@D)
+	$(INSTALL) -m 644 crates/mileage/out/libmileage.a $@
 
+# rt runs what it built: an empty script
 $(program): $(sources)
-	rt check mileage_bench
-	touch $@
+	cd crates/mileage_bench && rt run </dev/null >/dev/null
+	$(INSTALL) -d $(@D)
+	$(INSTALL) -m 755 crates/mileage_bench/out/mileage_bench $@
 
-# one after the other: both write to target/
+# one after the other: both prove the same crates
 $(program): | $(archive)
 
 test:
@@ -56,4 +59,4 @@ install: all
 	$(INSTALL) -m 755 $(program) "$(to)/bin/mileage_bench"
 
 clean:
-	rm -rf target
+	rm -rf target crates/*/out
