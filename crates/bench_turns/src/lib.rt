@@ -96,7 +96,6 @@ pub fn event_place(e: ScriptEvent) -> usize
 // ---- what its unit answers
 
 // A delivery of message number k, which is m if it was sent: 9 and 10 come before the unit's own numbers.
-#[tactic(auto, unfolding(crate::specs::InnerTurns::turnDelivery, bench_play::specs::Play::deliveryConditions, consensus::specs::Methods::unless, consensus::specs::Conditions::firstOf))]
 fn turn_delivery(unit: Unit, kept: u32, m: Message, k: u32) -> Answer
     ensures { result ≡ turnDelivery today unit kept m k }
 {

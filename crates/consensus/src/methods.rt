@@ -96,7 +96,6 @@ impl Unit {
     }
 
     // Proposes a mileage.
-    #[tactic(auto, unfolding(crate::specs::Methods::propose, crate::specs::Methods::proposeConditions, crate::specs::Methods::unless, crate::specs::Conditions::firstOf))]
     pub fn propose(self, mileage: u32) -> Answer
         ensures { result ≡ propose today self mileage }
     {
@@ -111,7 +110,6 @@ impl Unit {
     }
 
     // Takes a message.
-    #[tactic(auto, unfolding(crate::specs::Methods::deliver, crate::specs::Methods::deliverConditions, crate::specs::Methods::unless, crate::specs::Conditions::firstOf, crate::specs::InnerMethods::deliverRead))]
     pub fn deliver(self, m: Message) -> Answer
         ensures { result ≡ deliver today self m }
     {

@@ -26,7 +26,8 @@ use Rattle.formats.proofs.Steps.{write-kept}
 -- the numbers of a log that was made of eight numbers
 pub numbers-of : (e : Engine) (vs : List ℕ) → length vs ≡ logFields → engineOf (get_or vs 0 0) ≡ Is e → logNumbers (logOf e vs) ≡ vs
 numbers-of e vs len p =
-    rw (letter-engine (get_or vs 0 0) e p, code-estimate (get_or vs 5 0), code-estimate (get_or vs 6 0), code-estimate (get_or vs 7 0)) (spread-whole logFields vs len)
+    rw (letter-engine (get_or vs 0 0) e p, code-estimate (get_or vs 5 0), code-estimate (get_or vs 6 0), code-estimate (get_or vs 7 0))
+    (spread-whole logFields vs len)
 
 module _ (l : Limits) (sane : Sane l) where
   -- a well-formed log is made of its numbers

@@ -13,7 +13,7 @@ use formats::{EngineRead, LogRead, MessageRead, StateRead};
 use tally::{Refusal, limits};
 
 // Starts a unit: writes its log and its image, and reads neither. The engine is its letter's number.
-#[tactic(auto, unfolding(calls::specs::Calls::startCall, calls::specs::Calls::startCallConditions, calls::specs::Calls::badSettings, calls::specs::InnerCalls::settingsNarrow, consensus::specs::Conditions::firstOf, formats::specs::Messages::cleared))]
+#[tactic(auto, unfolding(calls::specs::InnerCalls::settingsNarrow))]
 pub fn start(engine: u32, n: u32, unit: u32, entry: u32, log: &mut [u8], image: &mut [u8]) -> u32
     ensures { called result log.new image.new [] blankCode
         ≡ startCall today engine n unit entry log.old image.old }
@@ -43,7 +43,6 @@ pub fn start(engine: u32, n: u32, unit: u32, entry: u32, log: &mut [u8], image: 
 }
 
 // Key-on: writes the image that the log gives, and does not read what it held.
-#[tactic(auto, unfolding(calls::specs::Calls::keyOnCall, calls::specs::Calls::keyOnCallConditions, consensus::specs::Conditions::firstOf, formats::specs::Messages::cleared, calls::specs::Calls::badLog, consensus::specs::Step::recovered, consensus::specs::Units::downUnit, consensus::specs::Units::atLog))]
 pub fn key_on(log: &[u8], image: &mut [u8]) -> u32
     ensures { called result log.now image.new [] blankCode ≡ keyOnCall today log.now image.old }
 {

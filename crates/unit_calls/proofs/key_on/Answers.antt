@@ -10,6 +10,10 @@ use Rattle.calls.specs.Calls.{badLog, keyOnCallConditions, keyOnCall}
 use Rattle.calls.proofs.Entries.{log-refused, image-stored, unit-sizes}
 use Rattle.unit_calls.proofs.key_on.Goals as goal
 
+pub returns-then-wrong_lengths : goal.returns-then-wrong_lengths
+unfolding keyOnCall keyOnCallConditions firstOf cleared
+returns-then-wrong_lengths c = rw (sym c.wrong_lengths.ensures ∙ c.if-wrong_lengths.true, c.number.ensures)
+
 pub returns-in_default : goal.returns-in_default
 unfolding keyOnCall keyOnCallConditions firstOf cleared
 returns-in_default c =

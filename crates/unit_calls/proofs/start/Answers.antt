@@ -9,6 +9,10 @@ use Rattle.calls.specs.Calls.{badSettings, startCallConditions, startCall}
 use Rattle.calls.proofs.Entries.{settings-too-large, log-stored, image-stored, unit-sizes}
 use Rattle.unit_calls.proofs.start.Goals as goal
 
+pub returns-then-wrong_lengths : goal.returns-then-wrong_lengths
+unfolding startCall startCallConditions firstOf cleared
+returns-then-wrong_lengths c = rw (sym c.wrong_lengths.ensures ∙ c.if-wrong_lengths.true, c.number.ensures)
+
 pub returns-then-not-settings_narrow : goal.returns-then-not-settings_narrow
 unfolding startCall startCallConditions firstOf cleared
 returns-then-not-settings_narrow c =
@@ -16,6 +20,25 @@ returns-then-not-settings_narrow c =
       sym c.wrong_lengths.ensures ∙ c.if-wrong_lengths.false,
       settings-too-large _ _ _ _ (sym c.settings_narrow.ensures ∙ c.if-not-settings_narrow.true),
       c.number-then-not-settings_narrow.ensures,
+    )
+
+pub returns-in_default : goal.returns-in_default
+unfolding startCall startCallConditions firstOf badSettings cleared
+returns-in_default c =
+    rw (
+      sym c.wrong_lengths.ensures ∙ c.if-wrong_lengths.false,
+      sym c.engine_of.ensures ∙ c.in_default.is,
+      c.number-in_default.ensures,
+    )
+
+pub returns-then-not-settings_ok : goal.returns-then-not-settings_ok
+unfolding startCall startCallConditions firstOf badSettings cleared
+returns-then-not-settings_ok c =
+    rw (
+      sym c.wrong_lengths.ensures ∙ c.if-wrong_lengths.false,
+      sym c.engine_of.ensures ∙ c.in-Is.is,
+      sym c.settings_ok.ensures ∙ c.if-not-settings_ok.true,
+      c.number-then-not-settings_ok.ensures,
     )
 
 pub returns : goal.returns
