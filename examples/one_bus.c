@@ -4,7 +4,7 @@
  * Both dashes propose, another mileage each; a message is lost, and the brake box's key goes off after its log write and
  * before its message leaves. The first round splits, the second decides, and all three report the same mileage.
  *
- * From the repository's root, after `rt staticlib mileage`:
+ * From the repository's root, after `make all`:
  *   cc -std=c99 -Iinclude examples/one_bus.c target/staticlib/libmileage.a -o target/one_bus && target/one_bus
  * or anywhere, after `make install`:
  *   cc -std=c99 one_bus.c $(pkg-config --cflags --libs mileage) -o one_bus && ./one_bus

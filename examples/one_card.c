@@ -5,7 +5,7 @@
  * leaves, so both rows lose their images; at key-on both go on from their logs. Later a row of dash 2 is damaged in working
  * memory, goes on from its log, and has to try again. All three report the same mileage of each entry.
  *
- * From the repository's root, after `rt staticlib mileage`:
+ * From the repository's root, after `make all`:
  *   cc -std=c99 -Iinclude examples/one_card.c target/staticlib/libmileage.a -o target/one_card && target/one_card
  * or anywhere, after `make install`:
  *   cc -std=c99 one_card.c $(pkg-config --cflags --libs mileage) -o one_card && ./one_card

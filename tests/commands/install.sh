@@ -16,12 +16,12 @@ fail() {
 # make alone says what it does, and does nothing.
 make >"$work/help"
 for target in all test install clean; do grep -q "^make $target " "$work/help" || fail "make does not say what make $target does"; done
-! grep -qE '^(rt|bash|rm|install) ' "$work/help" || fail "make alone runs something: $(cat "$work/help")"
+! grep -qE '^(cd|rt|bash|rm|install) ' "$work/help" || fail "make alone runs something: $(cat "$work/help")"
 
 # installed WORD...: `make install WORD...` runs, and builds nothing, since all is built
 installed() {
     (umask 077 && make --no-print-directory install "$@") >"$work/log" 2>&1 || fail "make install $*: $(tail -n 5 "$work/log")"
-    ! grep -q '^rt ' "$work/log" || fail "make install builds again what is built"
+    ! grep -q 'rt lib\|rt run' "$work/log" || fail "make install builds again what is built"
 }
 
 # holds FOLDER: these files and no others, readable for everyone
@@ -64,17 +64,18 @@ for bad in "" "$work/two words" "$work/it's"; do
 done
 
 # Building, testing and cleaning, in a tree of its own with another rt that writes down how it was called.
-mkdir -p "$work/tree/crates/tally" "$work/tree/.ci" "$work/path"
+mkdir -p "$work/tree/crates/tally" "$work/tree/crates/mileage" "$work/tree/crates/mileage_bench" "$work/tree/.ci" "$work/path"
 cp -r Makefile include "$work/tree"
 cd "$work/tree"
 touch crates.txt crates/tally/one crates/tally/two
 echo 'echo gate >>calls' >.ci/run
 cat >"$work/path/rt" <<'RT'
 #!/bin/sh
-echo "$*" >>calls
+echo "$(basename "$PWD"): $*" >>../../calls
+mkdir -p out
 case $1 in
-staticlib) mkdir -p target/staticlib && : >>target/staticlib/libmileage.a ;;
-check) mkdir -p target/bin && : >>target/bin/mileage_bench ;;
+lib) : >>out/libmileage.a ;;
+run) : >>out/mileage_bench ;;
 esac
 RT
 chmod +x "$work/path/rt"
@@ -84,17 +85,18 @@ built() {
     make --no-print-directory "$2" >/dev/null
     diff <(printf %s "$3") <(cat calls 2>/dev/null || :) >"$work/log" || fail "$1: $(cat "$work/log")"
 }
-both=$'staticlib mileage\ncheck mileage_bench\n'
+both=$'mileage: lib --cpu=x86-64\nmileage_bench: run\n'
 built "from nothing" all "$both"
 built "all is built" all ""
 touch -d '1 hour ago' target/staticlib/libmileage.a target/bin/mileage_bench
 built "older than a source" all "$both"
-touch -d '1 hour ago' crates crates/* crates/*/* crates.txt
+find crates crates.txt -exec touch -d '2 hours ago' {} +
+touch -d '1 hour ago' target/staticlib/libmileage.a target/bin/mileage_bench
 built "older sources" all ""
 rm crates/tally/two
 touch -d '1 minute ago' target/staticlib/libmileage.a target/bin/mileage_bench
 built "a source is gone" all "$both"
 built "the gate" test $'gate\n'
 built "cleaning" clean ""
-[ ! -e target ] || fail "make clean leaves target/"
+[ ! -e target ] && [ ! -e crates/mileage/out ] || fail "make clean leaves target/ or crates/mileage/out"
 echo "install.sh: the Makefile builds, installs and cleans as wanted; the examples are built with pkg-config and print what is written down"

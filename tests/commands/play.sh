@@ -112,19 +112,22 @@ said "a closed pipe" 'not written whole'
 # Builds, in a tree of its own with another rt. It prints a line, and waits where it is told to until the line was seen; it can fail, build nothing,
 # or end well without a word.
 tree=$work/tree
-mkdir -p "$tree/crates" "$work/path" "$work/temporary"
+mkdir -p "$tree/crates/mileage_bench" "$work/path" "$work/temporary"
 cp play "$tree/play"
 : >"$tree/crates.txt"
 cat >"$work/path/rt" <<RT
 #!/bin/sh
 cat >/dev/null
-[ "\$*" = "check mileage_bench" ] || exit 7
-[ ! -e "$work/mute" ] || exec >/dev/null
+[ "\$*" = run ] && [ "\${PWD##*/}" = mileage_bench ] || exit 7
+echo "0,?,-,8,-,-"
+[ ! -e "$work/mute" ] || exec 2>/dev/null
+exec >&2
 echo "library std: modules loaded=0"
-echo "rt: tally proved (7 s)"
+echo "crate tally: modules loaded=7 checked=0"
+[ -e "$work/broken" ] || echo "logic=proved functions=17"
 for i in 1 2 3 4 5 6 7 8 9; do [ ! -e "$work/wait" ] || sleep 1; done
-[ ! -e "$work/broken" ] || { echo "error: it is not so" >&2; echo "rt: FAILED: tally"; exit 1; }
-[ -e "$work/nothing" ] || { mkdir -p target/bin && cp "$PWD/$program" target/bin/mileage_bench; }
+[ ! -e "$work/broken" ] || { echo "error: it is not so"; echo "fn tally::number: not proved"; exit 1; }
+[ -e "$work/nothing" ] || { mkdir -p out && cp "$PWD/$program" out/mileage_bench; }
 RT
 chmod +x "$work/path/rt"
 # build STATUS NAME: plays a script on standard input
@@ -138,7 +141,7 @@ build() {
 touch "$work/broken"
 build 1 "a build that fails"
 said "a build that fails" 'error: it is not so'
-said "a build that fails" 'rt: FAILED: tally'
+said "a build that fails" 'fn tally::number: not proved'
 said "a build that fails" 'was not built'
 rm "$work/broken"
 touch "$work/nothing"
@@ -146,7 +149,7 @@ build 1 "a build of nothing"
 said "a build of nothing" 'built no bench program'
 rm "$work/nothing"
 build 0 "a build"
-said "a build" 'rt: tally proved (7 s)'
+said "a build" 'tally is proved'
 [ "$(grep -c 'minutes' "$work/err")" -eq 1 ] || wrong "a build: how long it takes is not said once"
 ! grep -q 'modules loaded' "$work/err" || wrong "a build: more than the prover's own lines is shown"
 build 0 "a second time"
@@ -168,11 +171,11 @@ rm -f "$work/mute" "$tree/target/bin/mileage_bench"
 touch "$work/wait"
 build 0 "a build that takes long" &
 for ((i = 0; i < 50; i++)); do
-    ! grep -qs 'rt: tally proved' "$work/err" || break
+    ! grep -qs 'tally is proved' "$work/err" || break
     sleep 0.1
 done
 seen=0
-[ -x "$tree/target/bin/mileage_bench" ] || ! grep -qs 'rt: tally proved' "$work/err" || seen=1
+[ -x "$tree/target/bin/mileage_bench" ] || ! grep -qs 'tally is proved' "$work/err" || seen=1
 rm "$work/wait"
 wait
 [ "$seen" -eq 1 ] || wrong "the prover's lines are not shown while it builds"
@@ -183,7 +186,7 @@ ln -s "$tree/play" "$work/link"
 listed "through a link" scripts/clean_close_b
 rm "$tree/target/bin/mileage_bench"
 mkdir "$work/bare"
-for tool in bash cat dirname find grep head mktemp readlink rm tail tee touch wc; do ln -s "$(command -v "$tool")" "$work/bare/$tool"; done
+for tool in awk bash cat cp dirname find grep head mkdir mktemp readlink rm tail tee touch wc; do ln -s "$(command -v "$tool")" "$work/bare/$tool"; done
 status=0
 PATH=$work/bare "$tree/play" scripts/clean_close_b >"$work/out" 2>"$work/err" || status=$?
 [ "$status" -eq 1 ] || wrong "without rt: status $status"
