@@ -9,7 +9,7 @@ to = $(DESTDIR)$(prefix)
 archive = target/staticlib/libmileage.a
 program = target/bin/mileage_bench
 # folders too: a file that is gone counts as a change; out/ is what rt keeps of its work
-sources := $(shell find crates crates.txt -name out -prune -o -print)
+sources := $(shell find crates/*/* crates.txt -name out -prune -o -print)
 version := $(shell sed -n 's/^.define MILEAGE_VERSION UINT32_C(\(.*\))$$/\1/p' include/mileage.h)
 
 define help

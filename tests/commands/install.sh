@@ -64,10 +64,10 @@ for bad in "" "$work/two words" "$work/it's"; do
 done
 
 # Building, testing and cleaning, in a tree of its own with another rt that writes down how it was called.
-mkdir -p "$work/tree/crates/tally" "$work/tree/crates/mileage" "$work/tree/crates/mileage_bench" "$work/tree/.ci" "$work/path"
+mkdir -p "$work"/tree/crates/{tally,mileage,mileage_bench}/src "$work/tree/.ci" "$work/path"
 cp -r Makefile include "$work/tree"
 cd "$work/tree"
-touch crates.txt crates/tally/one crates/tally/two
+touch crates.txt crates/tally/src/one crates/tally/src/two
 echo 'echo gate >>calls' >.ci/run
 cat >"$work/path/rt" <<'RT'
 #!/bin/sh
@@ -93,7 +93,7 @@ built "older than a source" all "$both"
 find crates crates.txt -exec touch -d '2 hours ago' {} +
 touch -d '1 hour ago' target/staticlib/libmileage.a target/bin/mileage_bench
 built "older sources" all ""
-rm crates/tally/two
+rm crates/tally/src/two
 touch -d '1 minute ago' target/staticlib/libmileage.a target/bin/mileage_bench
 built "a source is gone" all "$both"
 built "the gate" test $'gate\n'

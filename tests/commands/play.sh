@@ -112,7 +112,7 @@ said "a closed pipe" 'not written whole'
 # Builds, in a tree of its own with another rt. It prints a line, and waits where it is told to until the line was seen; it can fail, build nothing,
 # or end well without a word.
 tree=$work/tree
-mkdir -p "$tree/crates/mileage_bench" "$work/path" "$work/temporary"
+mkdir -p "$tree/crates/mileage_bench/src" "$work/path" "$work/temporary"
 cp play "$tree/play"
 : >"$tree/crates.txt"
 cat >"$work/path/rt" <<RT
@@ -149,7 +149,7 @@ build 1 "a build of nothing"
 said "a build of nothing" 'built no bench program'
 rm "$work/nothing"
 build 0 "a build"
-said "a build" 'tally is proved'
+said "a build" 'tally is checked'
 [ "$(grep -c 'minutes' "$work/err")" -eq 1 ] || wrong "a build: how long it takes is not said once"
 ! grep -q 'modules loaded' "$work/err" || wrong "a build: more than the prover's own lines is shown"
 build 0 "a second time"
@@ -171,11 +171,11 @@ rm -f "$work/mute" "$tree/target/bin/mileage_bench"
 touch "$work/wait"
 build 0 "a build that takes long" &
 for ((i = 0; i < 50; i++)); do
-    ! grep -qs 'tally is proved' "$work/err" || break
+    ! grep -qs 'tally is checked' "$work/err" || break
     sleep 0.1
 done
 seen=0
-[ -x "$tree/target/bin/mileage_bench" ] || ! grep -qs 'tally is proved' "$work/err" || seen=1
+[ -x "$tree/target/bin/mileage_bench" ] || ! grep -qs 'tally is checked' "$work/err" || seen=1
 rm "$work/wait"
 wait
 [ "$seen" -eq 1 ] || wrong "the prover's lines are not shown while it builds"
@@ -186,7 +186,7 @@ ln -s "$tree/play" "$work/link"
 listed "through a link" scripts/clean_close_b
 rm "$tree/target/bin/mileage_bench"
 mkdir "$work/bare"
-for tool in awk bash cat cp dirname find grep head mkdir mktemp readlink rm tail tee touch wc; do ln -s "$(command -v "$tool")" "$work/bare/$tool"; done
+for tool in bash cat cp dirname find grep head mkdir mktemp readlink rm sed tail tee touch wc; do ln -s "$(command -v "$tool")" "$work/bare/$tool"; done
 status=0
 PATH=$work/bare "$tree/play" scripts/clean_close_b >"$work/out" 2>"$work/err" || status=$?
 [ "$status" -eq 1 ] || wrong "without rt: status $status"
