@@ -33,16 +33,9 @@ room-next {xs} {ys} {at} {p} {a} b f e h =
     let h' : at + (length a + length b) ≤ length xs = rw length-append at h in
     omega (arith, f.ends, e)
 
--- nothing yet, a byte more, and all of a text
-pub puts-none : (xs s : List ℕ) (at : ℕ) → Puts xs at (take 0 s) xs (at + 0)
-puts-none xs s at = record { bytes = refl; ends = refl }
-
 pub puts-more : (xs ys s : List ℕ) (at i : ℕ) → i < length s → Puts xs at (take i s) ys (at + i)
     → Puts xs at (take (i + 1) s) (set ys (at + i) (get_or s i 0)) (at + (i + 1))
 puts-more xs ys s at i h p =
     let one : Puts ys (at + i) (get_or s i 0 ∷ []) (set ys (at + i) (get_or s i 0)) (at + (i + 1)) = record { bytes = refl; ends = omega arith } in
     let e : take (i + 1) s ≡ take i s ++ (get_or s i 0 ∷ []) = ap (λ (k : ℕ). take k s) (add-one i) ∙ take-suc s i 0 h in
     rw e (then p one)
-
-pub puts-all : (xs ys s : List ℕ) (at i r : ℕ) → length s ≤ i → r ≡ at + i → Puts xs at (take i s) ys (at + i) → Puts xs at s ys r
-puts-all xs ys s at i r b e p = rw e (rw (take_all i s b) at p)

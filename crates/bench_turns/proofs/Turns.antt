@@ -28,21 +28,6 @@ use Rattle.bench_turns.specs.declared.LineOutcome.{LineOutcome}
 
 -- ---- the place of the message that an event takes
 
-place-or-first : (k : ℕ) → placeOrFirst k < places
-place-or-first k = go (ltb k places) refl
-  where
-    go : (t : Bool) → ltb k places ≡ t → cond t k 0 < places
-    go true e = ltb-true k places e
-    go false e = omega arith
-
-pub place-below : (e : ScriptEvent) → eventPlace e < places
-place-below ScriptEvent.Malformed = omega arith
-place-below (ScriptEvent.Propose u v) = omega arith
-place-below (ScriptEvent.Deliver u k) = place-or-first k
-place-below (ScriptEvent.Cut u k) = place-or-first k
-place-below (ScriptEvent.KeyOff u) = omega arith
-place-below (ScriptEvent.KeyOn u) = omega arith
-
 -- ---- what comes of an answer
 
 -- the bench after unit u's answer a, of which o came: as it was where that is a refusal

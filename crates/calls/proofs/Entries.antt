@@ -43,27 +43,7 @@ neither false true e = never (sym e)
 
 -- ---- the settings of a start
 
--- numbers that fit the code's types
-pub record SettingsFit (engine n unit entry : ℕ) : Type 0 where
-  pub small-engine : engine < 256 ^ 1
-  pub small-n : n < 256 ^ 1
-  pub small-unit : unit < 256 ^ 1
-  pub small-entry : entry < 256 ^ 2
-
 module _ (engine n unit entry : ℕ) where
-  pub small : settingsNarrow engine n unit entry ≡ true → SettingsFit engine n unit entry
-  unfolding settingsNarrow
-  small h =
-      let a = both-true (ltb engine (256 ^ 1) && ltb n (256 ^ 1) && ltb unit (256 ^ 1)) (ltb entry (256 ^ 2)) h in
-      let b = both-true (ltb engine (256 ^ 1) && ltb n (256 ^ 1)) (ltb unit (256 ^ 1)) a.0 in
-      let c = both-true (ltb engine (256 ^ 1)) (ltb n (256 ^ 1)) b.0 in
-      record {
-        small-engine = ltb-true _ _ c.0;
-        small-n = ltb-true _ _ c.1;
-        small-unit = ltb-true _ _ b.1;
-        small-entry = ltb-true _ _ a.1;
-      }
-
   -- a number that is too large is out of its range, or no engine's letter
   pub settings-too-large : settingsNarrow engine n unit entry ≡ false → badSettings (engineOf engine) n unit entry ≡ true
   unfolding settingsNarrow badSettings

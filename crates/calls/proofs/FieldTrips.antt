@@ -23,25 +23,7 @@ use Rattle.formats.proofs.MessageFormat as message
 use Rattle.tally.specs.Limits.{Limits, logFields, logSize, messageFields, messageSize, Sane}
 use Rattle.calls.specs.Fields.{putNumbers, putChecked, readCall, writeCall, FieldTrip, readLogCall, writeLogCall, readMessageCall, writeMessageCall}
 
--- storing as many numbers as there are leaves these numbers
-pub sets-whole : (fs vs : List ℕ) → length fs ≡ length vs → sets fs 0 vs ≡ vs
-sets-whole fs vs e =
-    let short : length fs ≤ 0 + length vs = omega arith in
-    rw (sets-eq vs fs 0 (omega arith), drop_of_length-le fs short) (append-nil vs)
-
 module _ {A : Type 0} (f : Format A) (law : LawfulFormat f (λ a. Unit)) where
-  -- contents that were parsed are written as contents are
-  pub put-checked : (a : A) (kept bs : List ℕ) → length bs ≡ f.size → putChecked f (checked f (some a)) kept ≡ writeBytes f a kept bs
-  put-checked a kept bs len = rw (eq-eqb (length bs) f.size len) (go (f.ok a))
-    where
-      go : (t : Bool) → putChecked f (cond t (reading 0 a) (reading f.malformed f.nothing)) kept ≡ cond t (wrote 0 (toBytes f a))
-          (wrote f.malformed kept)
-      go true = refl
-      go false = rw (ne_eqb f.malformed 0 law.refuses)
-
-  -- what a read call answers where the fields' length is right
-  pub read-accepted : (bs fs : List ℕ) (a : A) → length fs ≡ f.fields → readBytes f bs ≡ reading 0 a → readCall f bs fs ≡ wrote 0 (f.numbers a)
-  read-accepted bs fs a len e = rw (eq-eqb (length fs) f.fields len, e)
 
   pub read-refused : (bs fs : List ℕ) (k : ℕ) → length fs ≡ f.fields → readBytes f bs ≡ reading k f.nothing → readCall f bs fs ≡ wrote k fs
   read-refused bs fs k len e = rw (eq-eqb (length fs) f.fields len, e, refused-number f (λ a. Unit) law bs k e)

@@ -18,26 +18,6 @@ use Rattle.formats.proofs.RoundTrips.{LawfulFormat, without-zero}
 use Rattle.formats.proofs.Packed.{Fit, fit-append}
 use Rattle.calls.specs.InnerFields.{narrow, headWidths, logHead, logNarrow, messageHead, messageNarrow}
 
--- each number from place o on fits its width
-abbrev pub Small : ℕ → List ℕ → List ℕ → Type 0
-Small o [] vs = Unit
-Small o (w ∷ ws) vs = (get_or vs o 0 < 256 ^ w) × Small (suc o) ws vs
-
-small : (ok : Bool) (o : ℕ) (ws vs : List ℕ) → narrow ok o ws vs ≡ true → (ok ≡ true) × Small o ws vs
-small ok o [] vs h = (h, tt)
-small ok o (w ∷ ws) vs h =
-    let r = small (ok && ltb (get_or vs o 0) (256 ^ w)) (suc o) ws vs h in
-    let a = tests.both-true ok (ltb (get_or vs o 0) (256 ^ w)) r.0 in
-    (a.0, (ltb-true _ _ a.1, r.1))
-
-pub log-small : (l : Limits) (vs : List ℕ) → logNarrow l vs ≡ true → Small 0 (headWidths (logFormat l) logHead) vs
-unfolding logNarrow
-log-small l vs h = (small true 0 (headWidths (logFormat l) logHead) vs h).1
-
-pub message-small : (l : Limits) (vs : List ℕ) → messageNarrow l vs ≡ true → Small 0 (headWidths (messageFormat l) messageHead) vs
-unfolding messageNarrow
-message-small l vs h = (small true 0 (headWidths (messageFormat l) messageHead) vs h).1
-
 -- numbers that fit their widths are narrow
 fit-narrow : (ok : Bool) (ws vs p : List ℕ) (o k : ℕ) → length p ≡ o → Fit ws vs → narrow ok o (take k ws) (p ++ vs) ≡ ok
 fit-narrow ok ws vs p o zero e h = refl

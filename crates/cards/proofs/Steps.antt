@@ -54,28 +54,6 @@ use Rattle.cards.specs.declared.UnitStep.{UnitStep}
 use Rattle.cards.specs.declared.UnitStep.TheVariants.{Propose, Deliver}
 use Rattle.cards.proofs.Rows.{image-forth}
 
--- ---- an array that is filled from the front
-
-module _ {A B : Type 0} (f : A → B) where
-  map-append : (xs ys : List A) → map f (xs ++ ys) ≡ map f xs ++ map f ys
-  map-append [] ys = refl
-  map-append (x ∷ xs) ys = ap (λ zs. f x ∷ zs) (map-append xs ys)
-
-  pub one-more : (i : ℕ) (xs : List A) (ys : List B) (d : A) (y : B) → i < length xs → i < length ys → y ≡ f (get_or xs i d)
-      → take i ys ≡ map f (take i xs) → take (i + 1) (set ys i y) ≡ map f (take (i + 1) xs)
-  one-more i xs ys d y bx by e t = rw (add-one, take-suc-set ys i y by, take-suc xs i d bx, map-append (take i xs) (get_or xs i d ∷ []), t, e)
-
-  pub all-done : (i k : ℕ) (xs : List A) (ys : List B) → i ≡ k → length xs ≡ k → length ys ≡ k → take i ys ≡ map f (take i xs)
-      → ys ≡ map f xs
-  all-done i k xs ys e lx ly t =
-      let tx : take i xs ≡ xs = take_all i xs (omega (arith, lx, e)) in
-      let ty : take i ys ≡ ys = take_all i ys (omega (arith, ly, e)) in
-      sym ty ∙ t ∙ ap (map f) tx
-
--- an array of structs has the length of what it is mapped to
-pub unmapped : (X Y : Type 0) (f : X → Y) (l : List X) (n : ℕ) → length (map f l) ≡ n → length l ≡ n
-unmapped X Y f l n e = sym (length-map l f) ∙ e
-
 -- the estimate of a sender, in a row
 row-cell : (es : List ℕ) (k : ℕ) → k < length es → get_or (map cellOf es) k blankCell ≡ cellOf (get_or es k 0)
 row-cell [] k h = absurd (omega arith)
@@ -133,15 +111,6 @@ isUnfit StateRead.Unfit = true
 abbrev theState : State → StateRead → State
 theState d (StateRead.Fits s) = s
 theState d StateRead.Unfit = d
-
-pub settings-bad : (c : CardCall) → settingsRead c ≡ SettingsRead.Bad → badBeside (besideOf c) c.row ≡ true
-settings-bad c e = go (badBeside (besideOf c) c.row) refl e
-  where
-    go : (t : Bool) → badBeside (besideOf c) c.row ≡ t
-        → cond t SettingsRead.Bad (SettingsRead.Are (settingsOfRow (besideOf c) c.row)) ≡ SettingsRead.Bad
-        → badBeside (besideOf c) c.row ≡ true
-    go true b e = b
-    go false b e = never (ap isBad e)
 
 pub settings-are : (c : CardCall) (s : Settings) → settingsRead c ≡ SettingsRead.Are s
     → (badBeside (besideOf c) c.row ≡ false) × (settingsOfRow (besideOf c) c.row ≡ s)
