@@ -128,6 +128,13 @@ kept-at [] i r e = refl
 kept-at (x ∷ xs) zero r e = e
 kept-at (x ∷ xs) (suc i) r e = kept-at xs i r e
 
+-- any part of a row
+kept-part : {A : Type 0} (f : CardRow → A) (rows : List CardRow) (i : ℕ) (r : CardRow) → f r ≡ f (get_or rows i noRow)
+    → f (get_or (set rows i r) i noRow) ≡ f (get_or rows i noRow)
+kept-part f [] i r e = refl
+kept-part f (x ∷ xs) zero r e = e
+kept-part f (x ∷ xs) (suc i) r e = kept-part f xs i r e
+
 -- ---- the four calls
 
 module _ (l : Limits) (b : Beside) (rows rows' : List CardRow) (len : length rows ≡ length rows') where
@@ -217,6 +224,19 @@ module _ (l : Limits) (b : Beside) (rows rows' : List CardRow) (len : length row
         ap (λ (rs : List CardRow). (rowAt rs m.entry).log) (deliver-on-row.stored z)
         ∙ kept-at rows (m.entry - 1) _
         (ap logFieldsOf same ∙ log-forth l r (log-read l r (or-second (badBeside b m.entry) _ (deliver-on-row.accepted z).1.1.1.0)))
+
+    -- whatever part of its row's unit a delivery leaves, it leaves in the row to the last number
+    pub deliver-keeps-part : {A : Type 0} (f : CardRow → A) → (cardDeliverCall l b rows bs out).number ≡ 0
+        → f (rowOf (received (rowUnit l (rowAt rows m.entry)) m).unit) ≡ f (rowOf (rowUnit l (rowAt rows m.entry)))
+        → f (rowAt (cardDeliverCall l b rows bs out).rows m.entry) ≡ f (rowAt rows m.entry)
+    unfolding cardDeliverConditions
+    deliver-keeps-part f z same =
+        let t = deliver-on-row.accepted z in
+        let r = rowAt rows m.entry in
+        let two = log-read l r (or-second (badBeside b m.entry) _ t.1.1.1.0) in
+        let three = image-read l r (or-second (otherRow l (settingsOfRow b m.entry) r) _ t.1.1.1.1.0) in
+        ap (λ (rs : List CardRow). f (rowAt rs m.entry)) (deliver-on-row.stored z)
+        ∙ kept-part f rows (m.entry - 1) _ (same ∙ ap f (row-forth l r two three.0 three.1))
 
     -- a delivery that changes nothing of the row's unit leaves every row to the last number
     pub deliver-keeps : (cardDeliverCall l b rows bs out).number ≡ 0
