@@ -14,7 +14,7 @@ use Rattle.tally.proofs.Never.{never}
 use Rattle.cards.specs.Calls.{rowAt}
 use Rattle.cards.specs.Rows.{noRow}
 use Rattle.cards.specs.declared.CardRow.{CardRow}
-use Rattle.cards.proofs.Calls.{kept-at}
+use Rattle.cards.proofs.Calls.{kept-part}
 use Rattle.agreement.specs.Worlds.{run}
 use Rattle.card_history.specs.Cards.{Stage, new, up, down, CardWorld, off, turnedOff, next, isUp, step}
 use Rattle.card_history.specs.Claims.{Placed, offAll, lowered, RowsOff, upToRow}
@@ -27,7 +27,7 @@ pub off-logs : (rows : List CardRow) (k j : ℕ) (lost : CardRow) → (rowAt (tu
 off-logs rows k j lost = go (eqb (j - 1) (k - 1)) refl
   where
     go : (b : Bool) → eqb (j - 1) (k - 1) ≡ b → (rowAt (turnedOff rows k lost).rows j).log ≡ (rowAt rows j).log
-    go true e = rw (eqb-true (j - 1) (k - 1) e) (kept-at rows (k - 1) _ refl)
+    go true e = rw (eqb-true (j - 1) (k - 1) e) (kept-part (λ (r : CardRow). r.log) rows (k - 1) _ refl)
     go false e = ap (λ (z : CardRow). z.log) (get_or-set_other rows (k - 1) (j - 1) _ noRow (eqb-false (j - 1) (k - 1) e))
 
 -- and every other row its image

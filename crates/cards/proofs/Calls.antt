@@ -122,18 +122,23 @@ image-read : (l : Limits) (r : CardRow) → badRowImage l r ≡ false
 unfolding badRowImage
 image-read l r h = let t = both-true (eqb (rowImage l r).number 0) _ (not-false _ h) in (eqb-true _ _ t.0, t.1)
 
--- a row that keeps its log, also one past the end
-pub kept-at : (rows : List CardRow) (i : ℕ) (r : CardRow) → r.log ≡ (get_or rows i noRow).log → (get_or (set rows i r) i noRow).log ≡ (get_or rows i noRow).log
-kept-at [] i r e = refl
-kept-at (x ∷ xs) zero r e = e
-kept-at (x ∷ xs) (suc i) r e = kept-at xs i r e
+-- the row of the unit that a row holds, where 2 and 3 do not hold of it
+row-same : (l : Limits) (r : CardRow) (a b : Bool) → (a || badRowLog l r) ≡ false → (b || badRowImage l r) ≡ false → rowOf (rowUnit l r) ≡ r
+row-same l r a b two three =
+    let i = image-read l r (or-second b _ three) in
+    row-forth l r (log-read l r (or-second a _ two)) i.0 i.1
 
--- any part of a row
-kept-part : {A : Type 0} (f : CardRow → A) (rows : List CardRow) (i : ℕ) (r : CardRow) → f r ≡ f (get_or rows i noRow)
+-- a part of a row that stays where the row is stored, also past the end
+pub kept-part : {A : Type 0} (f : CardRow → A) (rows : List CardRow) (i : ℕ) (r : CardRow) → f r ≡ f (get_or rows i noRow)
     → f (get_or (set rows i r) i noRow) ≡ f (get_or rows i noRow)
 kept-part f [] i r e = refl
 kept-part f (x ∷ xs) zero r e = e
 kept-part f (x ∷ xs) (suc i) r e = kept-part f xs i r e
+
+-- and so of an accepted call
+keeps-part : {A : Type 0} (f : CardRow → A) {l : Limits} {cs : List Condition} {rows : List CardRow} {k : ℕ} {x : CardRow} {out : List ℕ}
+    {a : CardAnswer} → OnRow l cs rows k x out a → a.number ≡ 0 → f x ≡ f (rowAt rows k) → f (rowAt a.rows k) ≡ f (rowAt rows k)
+keeps-part f {k = k} o z e = ap (λ (rs : List CardRow). f (rowAt rs k)) (o.stored z) ∙ kept-part f _ (k - 1) _ e
 
 -- ---- the four calls
 
@@ -160,8 +165,7 @@ module _ (l : Limits) (b : Beside) (rows rows' : List CardRow) (len : length row
     pub key-on-keeps-log : (cardKeyOnCall l b rows k).number ≡ 0 → (rowAt (cardKeyOnCall l b rows k).rows k).log ≡ (rowAt rows k).log
     unfolding cardKeyOnConditions recovered downUnit atLog
     key-on-keeps-log z =
-        ap (λ (rs : List CardRow). (rowAt rs k).log) (key-on-on-row.stored z)
-        ∙ kept-at rows (k - 1) _
+        keeps-part (λ (r : CardRow). r.log) key-on-on-row z
         (log-forth l (rowAt rows k) (log-read l (rowAt rows k) (or-second (badBeside b k) _ (key-on-on-row.accepted z).1.1.0)))
 
     pub key-on-alike : rowAt rows k ≡ rowAt rows' k → Alike k (cardKeyOnCall l b rows k) (cardKeyOnCall l b rows' k)
@@ -181,16 +185,19 @@ module _ (l : Limits) (b : Beside) (rows rows' : List CardRow) (len : length row
       unfolding cardProposeCall cardProposeConditions
       propose-alike same = rw (len, same) (unless-alike l _ rows rows' k len same _ out _ _)
 
-      -- a proposal leaves the row's log to the last number
+      -- whatever part of its row's unit a proposal leaves, it leaves in the row to the last number
+      pub propose-keeps-part : {A : Type 0} (f : CardRow → A) → (cardProposeCall l b rows k v out).number ≡ 0
+          → f (rowOf (proposed (rowUnit l (rowAt rows k)) v).unit) ≡ f (rowOf (rowUnit l (rowAt rows k)))
+          → f (rowAt (cardProposeCall l b rows k v out).rows k) ≡ f (rowAt rows k)
+      unfolding cardProposeConditions
+      propose-keeps-part f z same =
+          let t = propose-on-row.accepted z in
+          keeps-part f propose-on-row z (same ∙ ap f (row-same l (rowAt rows k) _ _ t.1.1.0 t.1.1.1.0))
+
+      -- and so the log
       pub propose-keeps-log : (cardProposeCall l b rows k v out).number ≡ 0
           → (rowAt (cardProposeCall l b rows k v out).rows k).log ≡ (rowAt rows k).log
-      unfolding cardProposeConditions
-      propose-keeps-log z =
-          let t = propose-on-row.accepted z in
-          let read = log-read l (rowAt rows k) (or-second (badBeside b k) _ t.1.1.0) in
-          ap (λ (rs : List CardRow). (rowAt rs k).log) (propose-on-row.stored z)
-          ∙ kept-at rows (k - 1) _
-          (ap logFieldsOf (proposed-keeps (rowUnit l (rowAt rows k)) v).0 ∙ log-forth l (rowAt rows k) read)
+      propose-keeps-log z = propose-keeps-part (λ (r : CardRow). r.log) z (ap logFieldsOf (proposed-keeps (rowUnit l (rowAt rows k)) v).0)
 
   module _ (bs out : List ℕ) where
     abbrev m : Message
@@ -214,42 +221,30 @@ module _ (l : Limits) (b : Beside) (rows rows' : List CardRow) (len : length row
     unfolding cardDeliverCall cardDeliverConditions
     deliver-alike same = rw (len, same) (unless-alike l _ rows rows' m.entry len same _ out _ _)
 
-    -- a delivery that writes no log leaves the row's log to the last number
-    pub deliver-keeps-log : (cardDeliverCall l b rows bs out).number ≡ 0
-        → unitLog (received (rowUnit l (rowAt rows m.entry)) m).unit ≡ unitLog (rowUnit l (rowAt rows m.entry))
-        → (rowAt (cardDeliverCall l b rows bs out).rows m.entry).log ≡ (rowAt rows m.entry).log
+    -- the row of an accepted delivery is the row of the unit that it holds
+    delivered-same : (cardDeliverCall l b rows bs out).number ≡ 0 → rowOf (rowUnit l (rowAt rows m.entry)) ≡ rowAt rows m.entry
     unfolding cardDeliverConditions
-    deliver-keeps-log z same =
-        let r = rowAt rows m.entry in
-        ap (λ (rs : List CardRow). (rowAt rs m.entry).log) (deliver-on-row.stored z)
-        ∙ kept-at rows (m.entry - 1) _
-        (ap logFieldsOf same ∙ log-forth l r (log-read l r (or-second (badBeside b m.entry) _ (deliver-on-row.accepted z).1.1.1.0)))
+    delivered-same z = let t = deliver-on-row.accepted z in row-same l (rowAt rows m.entry) _ _ t.1.1.1.0 t.1.1.1.1.0
 
     -- whatever part of its row's unit a delivery leaves, it leaves in the row to the last number
     pub deliver-keeps-part : {A : Type 0} (f : CardRow → A) → (cardDeliverCall l b rows bs out).number ≡ 0
         → f (rowOf (received (rowUnit l (rowAt rows m.entry)) m).unit) ≡ f (rowOf (rowUnit l (rowAt rows m.entry)))
         → f (rowAt (cardDeliverCall l b rows bs out).rows m.entry) ≡ f (rowAt rows m.entry)
-    unfolding cardDeliverConditions
-    deliver-keeps-part f z same =
-        let t = deliver-on-row.accepted z in
-        let r = rowAt rows m.entry in
-        let two = log-read l r (or-second (badBeside b m.entry) _ t.1.1.1.0) in
-        let three = image-read l r (or-second (otherRow l (settingsOfRow b m.entry) r) _ t.1.1.1.1.0) in
-        ap (λ (rs : List CardRow). f (rowAt rs m.entry)) (deliver-on-row.stored z)
-        ∙ kept-part f rows (m.entry - 1) _ (same ∙ ap f (row-forth l r two three.0 three.1))
+    deliver-keeps-part f z same = keeps-part f deliver-on-row z (same ∙ ap f (delivered-same z))
+
+    -- and so the log, where none is written
+    pub deliver-keeps-log : (cardDeliverCall l b rows bs out).number ≡ 0
+        → unitLog (received (rowUnit l (rowAt rows m.entry)) m).unit ≡ unitLog (rowUnit l (rowAt rows m.entry))
+        → (rowAt (cardDeliverCall l b rows bs out).rows m.entry).log ≡ (rowAt rows m.entry).log
+    deliver-keeps-log z same = deliver-keeps-part (λ (r : CardRow). r.log) z (ap logFieldsOf same)
 
     -- a delivery that changes nothing of the row's unit leaves every row to the last number
     pub deliver-keeps : (cardDeliverCall l b rows bs out).number ≡ 0
         → (received (rowUnit l (rowAt rows m.entry)) m).unit ≡ rowUnit l (rowAt rows m.entry) → (cardDeliverCall l b rows bs out).rows ≡ rows
-    unfolding cardDeliverConditions
     deliver-keeps z same =
-        let t = deliver-on-row.accepted z in
-        let r = rowAt rows m.entry in
-        let two = log-read l r (or-second (badBeside b m.entry) _ t.1.1.1.0) in
-        let three = image-read l r (or-second (otherRow l (settingsOfRow b m.entry) r) _ t.1.1.1.1.0) in
         deliver-on-row.stored z
         ∙ ap (λ (x : U.Unit). set rows (m.entry - 1) (rowOf x)) same
-        ∙ ap (set rows (m.entry - 1)) (row-forth l r two three.0 three.1)
+        ∙ ap (set rows (m.entry - 1)) (delivered-same z)
         ∙ set-get_or rows (m.entry - 1) noRow
 
 -- ---- what is not read
