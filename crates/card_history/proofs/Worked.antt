@@ -1,4 +1,5 @@
--- A history of cards computed: two entries of three units interleaved, a cut in one, both decided; a card that has one row alone. Assumes nothing.
+-- Histories of cards computed, of three units: in B two entries interleaved, a cut in one, both decided; in R one entry with a refused call, a key-off
+-- and a key-on, decided. One card has one row alone. Assumes nothing.
 use Prim.Native.Nat.{ℕ}
 use mathlib.Core.Path.{◌≡◌, refl}
 use mathlib.Core.Bool.{cond}
@@ -7,7 +8,7 @@ use lib.Count.{ones}
 use lib.Dec.{ltb}
 use lib.ListN.{length}
 use Rattle.tally.specs.Limits.{today, messageSize}
-use Rattle.tally.specs.declared.Engine.TheVariants.{B}
+use Rattle.tally.specs.declared.Engine.TheVariants.{B, R}
 use Rattle.tally.specs.Gathered.{holders, allHold, common, firstPassing, leads, majority}
 use Rattle.tally.specs.Tally.{noMarks, mark, gatheredFrom, gathered}
 use Rattle.contents.specs.Estimates.{mileageOrBlank, mileageOrSplit, secondEstimateOk, sameMileage}
@@ -28,7 +29,8 @@ use Rattle.cards.specs.Calls.{cardKeyOnCall, cardProposeConditions, cardProposeC
 use Rattle.cards.specs.Rows.{rowLog, rowImage, noRow}
 use Rattle.cards.specs.declared.CardRow.{CardRow}
 use Rattle.agreement.specs.Worlds.{run}
-use Rattle.card_history.specs.Cards.{new, up, CardWorld, begun, CardEvent, start, proposal, delivery, cut, on, next, leave, after, delivering, step}
+use Rattle.card_history.specs.Cards.{new, up, CardWorld, begun, lentCard, Call, proposes, CardEvent, start, proposal, delivery, cut, off, on, call}
+use Rattle.card_history.specs.Cards.{next, leave, after, runCall, besideUnit, delivering, step}
 
 -- buffers that held other bytes before
 abbrev out : List ℕ
@@ -92,3 +94,46 @@ unfolding ones holders allHold common firstPassing leads majority noMarks mark g
     otherRow badRowImage badMessage messageBytes cardStartConditions cardStartCall cardKeyOnConditions cardKeyOnCall cardProposeConditions
     cardProposeCall cardDeliverConditions cardDeliverCall run next leave after delivering step
 computed = record { sent = refl; proposed = refl; decided = refl; recovered = refl; logged = refl; in-image = refl; missing = refl }
+
+-- ---- engine R: a quorum is all three
+
+-- a row that unit 2's card does not have
+abbrev turnedDown : Call
+turnedDown = proposes (besideUnit R 3 2) (lentCard 2) 2 412077 out
+
+abbrev begunR : CardWorld
+begunR = run (step today R 3) (begun cards) (start 0 1 ∷ start 1 1 ∷ start 2 1 ∷ [])
+
+-- the key of unit 2's row is off when one SECOND of three is marked, and the mark is lost
+abbrev eventsR : List CardEvent
+eventsR =
+    call turnedDown
+    ∷ proposal 0 1 412077 out
+    ∷ delivery 0 0 out
+    ∷ delivery 1 0 out
+    ∷ delivery 2 0 out
+    ∷ delivery 2 1 out
+    ∷ off 2 1 noRow
+    ∷ on 2 1
+    ∷ delivery 2 2 out
+    ∷ delivery 2 3 out
+    ∷ delivery 2 1 out
+    ∷ []
+
+pub record WorkedR (w : CardWorld) : Type 0 where
+  pub refused : (runCall today begunR turnedDown).number ≡ 12
+  pub sent : length w.sent ≡ 4
+  pub proposed : w.proposed ≡ record { entry = 1; what = record { unit = 0; mileage = 412077 } } ∷ []
+  pub decided : w.decided ≡ record { entry = 1; what = record { unit = 2; round = 0; mileage = 412077 } } ∷ []
+  pub recovered : (w.units 2).stage 1 ≡ up
+  pub logged : (rowAt (w.units 2).rows 1).log.first ≡ 412077
+
+pub computed-r : WorkedR (run (step today R 3) begunR eventsR)
+unfolding ones holders allHold common firstPassing leads majority noMarks mark gatheredFrom gathered
+    mileageOrBlank mileageOrSplit secondEstimateOk sameMileage stateOk logOk every cellOk cellsOk tallyOk checksAllowed imageOk sameSettings stateFits
+    fits firstOk checkOk secondOk skipOk kindOk messageOk numAt bytesOf readMessage cleared firstOf atLog downUnit says logWrite
+    atRound fresh recovered sendFirst proposed takeFirst onFirst isFull nextProposal close countSecond
+    secondsWith onSecond onKind skip caughtUp received forOther outOfRange closesLast rowLog rowImage wrongCount namesNoRow badSettings badRowLog
+    otherRow badRowImage badMessage messageBytes cardStartConditions cardStartCall cardKeyOnConditions cardKeyOnCall cardProposeConditions
+    cardProposeCall cardDeliverConditions cardDeliverCall run next leave after runCall delivering step
+computed-r = record { refused = refl; sent = refl; proposed = refl; decided = refl; recovered = refl; logged = refl }
