@@ -146,9 +146,16 @@ static void key_on(struct unit *unit)
 static void propose(struct unit *unit, uint32_t row)
 {
     uint8_t out[MILEAGE_MESSAGE_LENGTH];
+    uint32_t number;
 
     printf("%s proposes for entry %lu\n", unit->name, (unsigned long)row);
-    must(mileage_card_propose(ENGINE, UNITS, unit->number, unit->card, ROWS, row, odometer[row - 1], out, sizeof out) == MILEAGE_ACCEPTED, "propose");
+    number = mileage_card_propose(ENGINE, UNITS, unit->number, unit->card, ROWS, row, odometer[row - 1], out, sizeof out);
+    if (number == MILEAGE_MALFORMED_LOG || number == MILEAGE_UNFIT_IMAGE) { /* the row was damaged: it proposes another time */
+        printf("  the row gives %lu\n", (unsigned long)number);
+        recover(unit, row);
+        return;
+    }
+    must(number == MILEAGE_ACCEPTED, "propose");
     send_out(unit, out);
 }
 

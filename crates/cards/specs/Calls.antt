@@ -43,7 +43,7 @@ wrongCount count = not (leb minRows count && leb count maxRows)
 unfoldable pub namesNoRow : ℕ → ℕ → Bool
 namesNoRow count k = not (leb 1 k && leb k count)
 
--- row k, being entry k, from 1
+-- row k, being entry k, from 1; a number that names no row is refused before a row is looked at
 abbrev pub rowAt : List CardRow → ℕ → CardRow
 rowAt rows k = get_or rows (k - 1) noRow
 

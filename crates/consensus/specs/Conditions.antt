@@ -1,4 +1,4 @@
--- Why a call is refused: conditions in the order of the call, each a row of the scope paper's table, and the number that they give. Assumes nothing.
+-- Why a call is refused: conditions in the order of the call, each a row of the table of numbers, and the number that they give. Assumes nothing.
 use Rattle.std.specs.Prelude.{ℕ, ◌≤◌, ◌≡◌, Bool, true, false, cond, List, [], ◌∷◌, ◌⊎◌}
 use Rattle.tally.specs.Refusal.{numberOf}
 use Rattle.tally.specs.declared.Refusal.{Refusal}
