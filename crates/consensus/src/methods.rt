@@ -54,6 +54,7 @@ fn is_second(kind: Kind) -> bool
 impl Unit {
     // Would this SECOND close the last round?
     #[tactic(auto, unfolding(crate::specs::Methods::closesLast, crate::specs::Step::isFull, crate::specs::Step::secondsWith))]
+    #[inline(always)]
     fn closes_last(self, m: Message) -> bool
         requires { m.sender < senders }
         ensures { result ≡ closesLast today self m }
@@ -71,6 +72,7 @@ impl Unit {
     }
 
     // A refusal changes nothing, sends nothing and decides nothing.
+    #[inline(always)]
     pub fn refused(self, refusal: Refusal) -> Answer
         ensures { result ≡ refuses self refusal }
     {
@@ -84,6 +86,7 @@ impl Unit {
 
     // A delivery of a message found well formed and for this unit, which is up: 7 is the one refusal left.
     #[tactic(auto, unfolding(crate::specs::InnerMethods::deliverRead, crate::specs::Methods::unless, crate::specs::Conditions::firstOf))]
+    #[inline(always)]
     fn deliver_read(self, m: Message) -> Answer
         requires { messageOk today m ≡ true }
         ensures { result ≡ deliverRead today self m }
@@ -96,6 +99,7 @@ impl Unit {
     }
 
     // Proposes a mileage.
+    #[inline(always)]
     pub fn propose(self, mileage: u32) -> Answer
         ensures { result ≡ propose today self mileage }
     {
@@ -110,6 +114,7 @@ impl Unit {
     }
 
     // Takes a message.
+    #[inline(always)]
     pub fn deliver(self, m: Message) -> Answer
         ensures { result ≡ deliver today self m }
     {

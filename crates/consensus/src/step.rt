@@ -106,6 +106,7 @@ pub(crate) fn marked(t: Tally, m: Message) -> Tally
 
 impl Unit {
     // ---- answers
+    #[inline(always)]
     fn gives(self, message: Message, decision: Estimate) -> Answer
         ensures { result ≡ gives self message decision }
     {
@@ -118,6 +119,7 @@ impl Unit {
     }
 
     // Nothing is sent, nothing decided.
+    #[inline(always)]
     pub(crate) fn quiet(self) -> Answer
         ensures { result ≡ quiet self }
     {
@@ -126,6 +128,7 @@ impl Unit {
 
     // A message of this unit, with its round.
     #[tactic(auto, unfolding(crate::specs::Step::says))]
+    #[inline(always)]
     fn says(self, kind: Kind, receiver: u8, estimate: Estimate, proposal: Estimate) -> Message
         ensures { result ≡ says self kind receiver estimate proposal }
     {
@@ -144,6 +147,7 @@ impl Unit {
         }
     }
 
+    #[inline(always)]
     fn sends(self, kind: Kind, receiver: u8, estimate: Estimate, proposal: Estimate) -> Answer
         ensures { result ≡ sends self kind receiver estimate proposal }
     {
@@ -154,18 +158,21 @@ impl Unit {
     }
 
     // ---- the unit with one thing replaced
+    #[inline(always)]
     fn with_current(self, current: State) -> Unit
         ensures { result ≡ withCurrent self current }
     {
         Unit { current, ..self }
     }
 
+    #[inline(always)]
     fn with_checks(self, checks: Tally) -> Unit
         ensures { result ≡ withChecks self checks }
     {
         Unit { checks, ..self }
     }
 
+    #[inline(always)]
     fn with_seconds(self, seconds: Tally) -> Unit
         ensures { result ≡ withSeconds self seconds }
     {
@@ -174,6 +181,7 @@ impl Unit {
 
     // A log write stores the whole record.
     #[tactic(auto, unfolding(crate::specs::Step::logWrite))]
+    #[inline(always)]
     fn log_write(self, state: State) -> Unit
         ensures { result ≡ logWrite self state }
     {
@@ -186,6 +194,7 @@ impl Unit {
 
     // The unit takes a round and a proposal, and blanks both estimates and all marks.
     #[tactic(auto, unfolding(crate::specs::Step::atRound))]
+    #[inline(always)]
     fn at_round(mut self, round: Round, proposal: Estimate) -> Unit
         ensures { result ≡ atRound self round proposal }
     {
@@ -219,6 +228,7 @@ impl Unit {
     // ---- to propose
     // FIRST goes out with round and proposal.
     #[tactic(auto, unfolding(crate::specs::Step::sendFirst))]
+    #[inline(always)]
     fn send_first(self, p: Estimate) -> Answer
         ensures { result ≡ sendFirst self p }
     {
@@ -232,6 +242,7 @@ impl Unit {
 
     // If the proposal is blank it becomes the mileage given.
     #[tactic(auto, unfolding(crate::specs::Step::proposed))]
+    #[inline(always)]
     pub(crate) fn proposed(self, mileage: u32) -> Answer
         ensures { result ≡ proposed self mileage }
     {
@@ -243,6 +254,7 @@ impl Unit {
     // ---- FIRST
     // The first estimate becomes the proposal received; log; B sends CHECK, R sends SECOND.
     #[tactic(auto, unfolding(crate::specs::Step::takeFirst))]
+    #[inline(always)]
     fn take_first(self, e: Estimate) -> Answer
         ensures { result ≡ takeFirst self e }
     {
@@ -263,6 +275,7 @@ impl Unit {
     }
 
     #[tactic(auto, unfolding(crate::specs::Step::onFirst))]
+    #[inline(always)]
     fn on_first(self, m: Message) -> Answer
         ensures { result ≡ onFirst self m }
     {
@@ -279,6 +292,7 @@ impl Unit {
     // ---- CHECK
     // The second estimate is set; log; CHECK marks are cleared; SECOND goes out.
     #[tactic(auto, unfolding(crate::specs::Step::takeSecond))]
+    #[inline(always)]
     fn take_second(self, e: Estimate) -> Answer
         ensures { result ≡ takeSecond self e }
     {
@@ -293,6 +307,7 @@ impl Unit {
     }
 
     #[tactic(auto, unfolding(crate::specs::Step::countCheck, crate::specs::Step::isFull))]
+    #[inline(always)]
     fn count_check(self, t: Tally) -> Answer
         ensures { result ≡ countCheck self t }
     {
@@ -304,6 +319,7 @@ impl Unit {
     }
 
     #[tactic(auto, unfolding(crate::specs::Step::onCheck, crate::specs::Step::checksWith))]
+    #[inline(always)]
     fn on_check(self, m: Message) -> Answer
         requires { m.sender < senders }
         ensures { result ≡ onCheck self m }
@@ -320,6 +336,7 @@ impl Unit {
     // ---- SECOND
     // A mileage that all gathered hold is decided; the round rises by 1, estimates and marks are blanked.
     #[tactic(auto, unfolding(crate::specs::Step::close))]
+    #[inline(always)]
     fn close(self, t: Tally) -> Answer
         requires { self.current.round ≤ today.lastRound }
         ensures { result ≡ close self t }
@@ -333,6 +350,7 @@ impl Unit {
     }
 
     #[tactic(auto, unfolding(crate::specs::Step::countSecond, crate::specs::Step::isFull))]
+    #[inline(always)]
     fn count_second(self, t: Tally) -> Answer
         requires { self.current.round ≤ today.lastRound }
         ensures { result ≡ countSecond self t }
@@ -345,6 +363,7 @@ impl Unit {
     }
 
     #[tactic(auto, unfolding(crate::specs::Step::onSecond, crate::specs::Step::secondsWith))]
+    #[inline(always)]
     fn on_second(self, m: Message) -> Answer
         requires { (m.sender < senders) × (self.current.round ≤ today.lastRound) }
         ensures { result ≡ onSecond self m }
@@ -358,6 +377,7 @@ impl Unit {
 
     // ---- any message
     #[tactic(auto, unfolding(crate::specs::Step::onKind))]
+    #[inline(always)]
     fn on_kind(self, kind: Kind, m: Message) -> Answer
         requires { (m.sender < senders) × (self.current.round ≤ today.lastRound) }
         ensures { result ≡ onKind kind self m }
@@ -373,6 +393,7 @@ impl Unit {
 
     // SKIP goes to the sender of a message below the unit's round.
     #[tactic(auto, unfolding(crate::specs::Step::skip))]
+    #[inline(always)]
     fn skip(self, receiver: u8) -> Answer
         ensures { result ≡ skip self receiver }
     {
@@ -383,6 +404,7 @@ impl Unit {
 
     // A message above the unit's round raises it.
     #[tactic(auto, unfolding(crate::specs::Step::caughtUp))]
+    #[inline(always)]
     fn caught_up(self, m: Message) -> Unit
         ensures { result ≡ caughtUp self m }
     {
@@ -395,6 +417,7 @@ impl Unit {
     }
 
     #[tactic(auto, unfolding(crate::specs::Step::received))]
+    #[inline(always)]
     pub(crate) fn received(self, m: Message) -> Answer
         requires { (m.sender < senders) × (m.round ≤ today.lastRound) }
         ensures { result ≡ received self m }
