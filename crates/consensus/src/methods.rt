@@ -65,7 +65,7 @@ impl Unit {
             & (self.current.round == limits::LAST_ROUND)
         {
             !tally::is_marked(self.seconds.marks, m.sender)
-                & step::is_full(self.settings, step::marked(self.seconds, m))
+                & step::is_full(self.settings, &step::marked(self.seconds, m))
         } else {
             false
         }
@@ -92,10 +92,9 @@ impl Unit {
         ensures { result ≡ deliverRead today self m }
     {
         if self.closes_last(m) {
-            self.refused(Refusal::LastRound)
-        } else {
-            self.received(m)
+            return self.refused(Refusal::LastRound);
         }
+        self.received(m)
     }
 
     // Proposes a mileage.

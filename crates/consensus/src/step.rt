@@ -78,8 +78,8 @@ fn decided(e: Estimate) -> Estimate
 
 // The proposal of the next round, of the SECONDs gathered.
 #[tactic(auto, unfolding(crate::specs::Step::nextProposal))]
-fn next_proposal(engine: Engine, n: u8, t: Tally, own: Estimate) -> Estimate
-    ensures { result ≡ nextProposal engine n t own }
+fn next_proposal(engine: Engine, n: u8, t: &Tally, own: Estimate) -> Estimate
+    ensures { result ≡ nextProposal engine n t.now own }
 {
     match engine {
         Engine::B => or_if_blank(t.lowest(), own),
@@ -88,8 +88,8 @@ fn next_proposal(engine: Engine, n: u8, t: Tally, own: Estimate) -> Estimate
 }
 
 // Is the quorum there?
-pub(crate) fn is_full(s: Settings, t: Tally) -> bool
-    ensures { result ≡ leb (quorumOf s.engine s.n) (ones t.marks) }
+pub(crate) fn is_full(s: Settings, t: &Tally) -> bool
+    ensures { result ≡ leb (quorumOf s.engine s.n) (ones t.now.marks) }
 {
     let engine = s.engine;
     tally::quorum(engine, s.n) <= t.count()
@@ -283,10 +283,9 @@ impl Unit {
         let first = current.first;
         let proposal = m.proposal;
         if estimates::is_blank(first) {
-            self.take_first(proposal)
-        } else {
-            self.quiet()
+            return self.take_first(proposal);
         }
+        self.quiet()
     }
 
     // ---- CHECK
@@ -311,11 +310,10 @@ impl Unit {
     fn count_check(self, t: Tally) -> Answer
         ensures { result ≡ countCheck self t }
     {
-        if is_full(self.settings, t) {
-            self.take_second(t.common())
-        } else {
-            self.with_checks(t).quiet()
+        if is_full(self.settings, &t) {
+            return self.take_second(t.common());
         }
+        self.with_checks(t).quiet()
     }
 
     #[tactic(auto, unfolding(crate::specs::Step::onCheck, crate::specs::Step::checksWith))]
@@ -327,10 +325,9 @@ impl Unit {
         let current = self.current;
         let second = current.second;
         if estimates::is_blank(second) & !tally::is_marked(self.checks.marks, m.sender) {
-            self.count_check(marked(self.checks, m))
-        } else {
-            self.quiet()
+            return self.count_check(marked(self.checks, m));
         }
+        self.quiet()
     }
 
     // ---- SECOND
@@ -345,7 +342,7 @@ impl Unit {
         let engine = settings.engine;
         let current = self.current;
         let own = current.proposal;
-        self.at_round(current.round + 1, next_proposal(engine, settings.n, t, own))
+        self.at_round(current.round + 1, next_proposal(engine, settings.n, &t, own))
             .gives(EMPTY, decided(t.common()))
     }
 
@@ -355,11 +352,10 @@ impl Unit {
         requires { self.current.round ≤ today.lastRound }
         ensures { result ≡ countSecond self t }
     {
-        if is_full(self.settings, t) {
-            self.close(t)
-        } else {
-            self.with_seconds(t).quiet()
+        if is_full(self.settings, &t) {
+            return self.close(t);
         }
+        self.with_seconds(t).quiet()
     }
 
     #[tactic(auto, unfolding(crate::specs::Step::onSecond, crate::specs::Step::secondsWith))]
@@ -369,10 +365,9 @@ impl Unit {
         ensures { result ≡ onSecond self m }
     {
         if tally::is_marked(self.seconds.marks, m.sender) {
-            self.quiet()
-        } else {
-            self.count_second(marked(self.seconds, m))
+            return self.quiet();
         }
+        self.count_second(marked(self.seconds, m))
     }
 
     // ---- any message
@@ -383,12 +378,13 @@ impl Unit {
         ensures { result ≡ onKind kind self m }
     {
         match kind {
-            Kind::Empty => self.quiet(),
-            Kind::First => self.on_first(m),
-            Kind::Check => self.on_check(m),
-            Kind::Second => self.on_second(m),
-            Kind::Skip => self.quiet(),
+            Kind::Empty => {}
+            Kind::First => return self.on_first(m),
+            Kind::Check => return self.on_check(m),
+            Kind::Second => return self.on_second(m),
+            Kind::Skip => {}
         }
+        self.quiet()
     }
 
     // SKIP goes to the sender of a message below the unit's round.
@@ -410,10 +406,9 @@ impl Unit {
     {
         let proposal = m.proposal;
         if self.current.round < m.round {
-            self.at_round(m.round, proposal)
-        } else {
-            self
+            return self.at_round(m.round, proposal);
         }
+        self
     }
 
     #[tactic(auto, unfolding(crate::specs::Step::received))]
@@ -424,9 +419,8 @@ impl Unit {
     {
         let kind = m.kind;
         if m.round < self.current.round {
-            self.skip(m.sender)
-        } else {
-            self.caught_up(m).on_kind(kind, m)
+            return self.skip(m.sender);
         }
+        self.caught_up(m).on_kind(kind, m)
     }
 }
