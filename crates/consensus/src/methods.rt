@@ -54,10 +54,9 @@ fn is_second(kind: Kind) -> bool
 impl Unit {
     // Would this SECOND close the last round?
     #[tactic(auto, unfolding(crate::specs::Methods::closesLast, crate::specs::Step::isFull, crate::specs::Step::secondsWith))]
-    #[inline(always)]
-    fn closes_last(self, m: Message) -> bool
+    fn closes_last(&self, m: Message) -> bool
         requires { m.sender < senders }
-        ensures { result ≡ closesLast today self m }
+        ensures { result ≡ closesLast today self.now m }
     {
         let kind = m.kind;
         if is_second(kind)
@@ -65,14 +64,13 @@ impl Unit {
             & (self.current.round == limits::LAST_ROUND)
         {
             !tally::is_marked(self.seconds.marks, m.sender)
-                & step::is_full(self.settings, &step::marked(self.seconds, m))
+                & step::is_full(self.settings, &step::marked(&self.seconds, m))
         } else {
             false
         }
     }
 
     // A refusal changes nothing, sends nothing and decides nothing.
-    #[inline(always)]
     pub fn refused(self, refusal: Refusal) -> Answer
         ensures { result ≡ refuses self refusal }
     {
@@ -86,7 +84,6 @@ impl Unit {
 
     // A delivery of a message found well formed and for this unit, which is up: 7 is the one refusal left.
     #[tactic(auto, unfolding(crate::specs::InnerMethods::deliverRead, crate::specs::Methods::unless, crate::specs::Conditions::firstOf))]
-    #[inline(always)]
     fn deliver_read(self, m: Message) -> Answer
         requires { messageOk today m ≡ true }
         ensures { result ≡ deliverRead today self m }
@@ -98,7 +95,6 @@ impl Unit {
     }
 
     // Proposes a mileage.
-    #[inline(always)]
     pub fn propose(self, mileage: u32) -> Answer
         ensures { result ≡ propose today self mileage }
     {
@@ -113,7 +109,6 @@ impl Unit {
     }
 
     // Takes a message.
-    #[inline(always)]
     pub fn deliver(self, m: Message) -> Answer
         ensures { result ≡ deliver today self m }
     {
