@@ -7,13 +7,13 @@ use Rattle.card_calls.proofs.with_log.Goals as goal
 use Rattle.card_calls.proofs.with_log.Goals.{in-Propose, in-Deliver}
 
 pub returns-in_default : goal.returns-in_default
-returns-in_default c = rw (row-unfit c.args.r c.args.l (sym c.state_for.ensures ∙ c.in_default.is)) c.stays.ensures
+returns-in_default c = rw (row-unfit c.args.r.now c.args.l (sym c.state_for.ensures ∙ c.in_default.is), c.tells.ensures)
 
 pub tally_of-requires : goal.tally_of-requires
-tally_of-requires c = ltb-true _ _ (row-fit c.args.r c.args.l _ (sym c.state_for.ensures ∙ c.in-Fits.is)).checks-fit
+tally_of-requires c = ltb-true _ _ (row-fit c.args.r.now c.args.l _ (sym c.state_for.ensures ∙ c.in-Fits.is)).checks-fit
 
 pub tally_of-requires-2 : goal.tally_of-requires-2
-tally_of-requires-2 c = ltb-true _ _ (row-fit c.args.r c.args.l _ (sym c.state_for.ensures ∙ c.in-Fits.is)).seconds-fit
+tally_of-requires-2 c = ltb-true _ _ (row-fit c.args.r.now c.args.l _ (sym c.state_for.ensures ∙ c.in-Fits.is)).seconds-fit
 
 pub returns : goal.returns
 unfolding takes
@@ -23,5 +23,5 @@ returns c =
       | in-Propose w ↦ w.a-is ∙ rw w.in-Propose.is w.propose-a.ensures
       | in-Deliver w ↦ w.a-is ∙ rw w.in-Deliver.is w.deliver-a.ensures
     ] in
-    let fit = row-fit c.args.r c.args.l _ (sym c.state_for.ensures ∙ c.in-Fits.is) in
+    let fit = row-fit c.args.r.now c.args.l _ (sym c.state_for.ensures ∙ c.in-Fits.is) in
     rw (fit.fits-log, ← fit.unit) (rw (answer, c.up-u.ensures, c.tally_of-2.ensures, c.tally_of.ensures) at c.answered.ensures)
