@@ -29,13 +29,13 @@ pub const EMPTY: Message = Message {
 
 // What a step tells beside the unit: the message to send, and a mileage decided or blank.
 #[derive(Clone, Copy)]
-struct Said {
-    message: Message,
-    decision: Estimate,
+pub(crate) struct Said {
+    pub(crate) message: Message,
+    pub(crate) decision: Estimate,
 }
 
 // Nothing is sent, nothing decided.
-const NOTHING: Said = Said {
+pub(crate) const NOTHING: Said = Said {
     message: EMPTY,
     decision: Estimate::Blank,
 };
@@ -378,7 +378,7 @@ impl Unit {
     }
 
     #[tactic(auto, unfolding(crate::specs::Step::received))]
-    fn step(&mut self, m: Message) -> Said
+    pub(crate) fn received(&mut self, m: Message) -> Said
         requires { (m.sender < senders) × (m.round ≤ today.lastRound) }
         ensures { gives self.new result.message result.decision ≡ received self.old m }
     {
@@ -388,13 +388,5 @@ impl Unit {
         }
         self.caught_up(m);
         self.on_kind(kind, m)
-    }
-
-    pub(crate) fn received(mut self, m: Message) -> Answer
-        requires { (m.sender < senders) × (m.round ≤ today.lastRound) }
-        ensures { result ≡ received self m }
-    {
-        let said = self.step(m);
-        self.gives(said)
     }
 }

@@ -165,17 +165,14 @@ impl Tally {
     }
 
     #[tactic(auto, unfolding(crate::specs::Tally::mark))]
-    pub fn mark(self, sender: u8, estimate: Estimate) -> Tally
+    pub fn mark(mut self, sender: u8, estimate: Estimate) -> Tally
         requires { sender < senders }
         ensures { result ≡ mark self sender estimate }
     {
         let at = sender as usize;
-        let mut cells = self.cells;
-        cells[at] = Cell { estimate };
-        Tally {
-            marks: with_mark(self.marks, sender),
-            cells,
-        }
+        self.marks = with_mark(self.marks, sender);
+        self.cells[at] = Cell { estimate };
+        self
     }
 
     // How many senders are marked.

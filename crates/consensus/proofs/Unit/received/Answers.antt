@@ -1,7 +1,7 @@
 -- A unit that caught up is in the message's round, or in its own, which is no lower. Assumes nothing.
 use Rattle.std.proofs.Common.{arith}
 use Rattle.consensus.proofs.Stays.{caught-up-round}
-use Rattle.consensus.proofs.Unit.step.Goals as goal
+use Rattle.consensus.proofs.Unit.received.Goals as goal
 
 pub on_kind-requires : goal.on_kind-requires
 on_kind-requires c =
