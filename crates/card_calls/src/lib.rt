@@ -160,6 +160,7 @@ fn own_log(c: &CardCall, r: &CardRow) -> LogRead
 }
 
 // An accepted answer changes the row.
+#[inline(always)]
 fn answered(row: &mut CardRow, a: &Answer) -> Told
     ensures { rowAnswer row.new result ≡ rowAnswered row.old a.now }
 {
@@ -221,11 +222,10 @@ fn with_log(l: Log, r: &mut CardRow, s: UnitStep) -> Told
         card_rows::tally_of(&r.checks),
         card_rows::tally_of(&r.seconds),
     );
-    let a = match s {
-        UnitStep::Propose(v) => u.propose(v),
-        UnitStep::Deliver(m) => u.deliver(m),
-    };
-    answered(r, &a)
+    match s {
+        UnitStep::Propose(v) => answered(r, &u.propose(v)),
+        UnitStep::Deliver(m) => answered(r, &u.deliver(m)),
+    }
 }
 
 // A step of the row's unit.

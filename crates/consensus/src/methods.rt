@@ -163,6 +163,7 @@ impl Unit {
     }
 
     // Takes a message.
+    #[inline(always)]
     pub fn deliver(mut self, m: Message) -> Answer
         ensures { result ≡ deliver today self m }
     {
