@@ -159,10 +159,17 @@ pub fn state_for(r: &CardRow, log: Log) -> StateRead
     }
 }
 
+// Sixteen blanks are known in one pass.
 pub fn tally_of(f: &TallyFields) -> Tally
     requires { f.now.marks < 2 ^ senders }
     ensures { result ≡ rowTally f.now }
 {
+    if blanks(f) {
+        return Tally {
+            marks: f.marks as u16,
+            cells: tally::NO_CELLS,
+        };
+    }
     let mut cells = tally::NO_CELLS;
     let mut i: usize = 0;
     while i < limits::SENDERS {
