@@ -16,6 +16,6 @@ pub all-blank : (xs : List ℕ) → length xs ≡ senders → every senders (λ 
 all-blank xs e h =
     same_number_lists xs (replicate senders blankCode) e
     (λ k b.
-        let at : k < senders = omega arith in
-        eqb-true _ _ (blank-number (get_or xs k 0) ∙ every-at senders (λ u. isBlank (estimateOf (get_or xs u 0))) h k at)
-        ∙ sym (get_or-replicate senders k blankCode 0 at))
+    let at : k < senders = omega arith in
+    eqb-true _ _ (blank-number (get_or xs k 0) ∙ every-at senders (λ u. isBlank (estimateOf (get_or xs u 0))) h k at)
+    ∙ sym (get_or-replicate senders k blankCode 0 at))
