@@ -10,7 +10,7 @@ ghost use Rattle.cards.specs.Calls.{wrongCount, namesNoRow};
 ghost use Rattle.cards.specs.InnerSteps.{settingsRead, ownLog, tells, rowAnswer, rowAnswered, withLog, actOf, stepOf, isShort, isMalformed};
 ghost use Rattle.cards.specs.InnerSteps.{front, placeOf, cardTold, cardRows};
 
-use cards::{Act, CardCall, CardRow, RowAnswer, SettingsRead, Told, UnitStep};
+use cards::{Act, CardCall, CardRow, SettingsRead, Told, UnitStep};
 use consensus::{Answer, Unit, step};
 use contents::{Log, Settings};
 use formats::{EngineRead, LogRead, StateRead};
@@ -63,8 +63,8 @@ fn is_malformed(act: Act) -> bool
 
 // Why a call has no row; None where it has one.
 #[tactic(auto, unfolding(cards::specs::InnerSteps::front, cards::specs::InnerSteps::frontConditions, consensus::specs::Conditions::firstOf))]
-fn front(c: CardCall, count: usize) -> Refusal
-    ensures { result ≡ front c count }
+fn front(c: &CardCall, count: usize) -> Refusal
+    ensures { result ≡ front c.now count }
 {
     let act = c.act;
     if wrong_count(count) | is_short(act) {
@@ -81,8 +81,8 @@ fn front(c: CardCall, count: usize) -> Refusal
 
 // Where the row of a call stands, or the count where there is none.
 #[tactic(auto, unfolding(cards::specs::InnerSteps::placeOf))]
-fn place(c: CardCall, count: usize) -> usize
-    ensures { result ≡ placeOf c count }
+fn place(c: &CardCall, count: usize) -> usize
+    ensures { result ≡ placeOf c.now count }
 {
     if tally::number(front(c, count)) == 0 {
         wide(c.row) - 1
@@ -102,8 +102,8 @@ fn tells(refusal: Refusal) -> Told
 }
 
 // What a call without a row tells.
-fn refused(c: CardCall, count: usize) -> Told
-    ensures { result ≡ tells (front c count) }
+fn refused(c: &CardCall, count: usize) -> Told
+    ensures { result ≡ tells (front c.now count) }
 {
     tells(front(c, count))
 }
@@ -111,16 +111,16 @@ fn refused(c: CardCall, count: usize) -> Told
 // ---- the step of a row
 // Do the settings beside the card fit their types?
 #[tactic(auto, unfolding(calls::specs::InnerCalls::settingsNarrow))]
-fn narrow(c: CardCall) -> bool
-    ensures { result ≡ settingsNarrow c.engine c.n c.unit c.row }
+fn narrow(c: &CardCall) -> bool
+    ensures { result ≡ settingsNarrow c.now.engine c.now.n c.now.unit c.now.row }
 {
     (c.engine < 256) & (c.n < 256) & (c.unit < 256) & (c.row < 65536)
 }
 
 // The settings beside the card, with the row's number as the entry.
 #[tactic(auto, unfolding(calls::specs::Calls::badSettings, calls::specs::InnerCalls::settingsNarrow))]
-fn settings_of(c: CardCall) -> SettingsRead
-    ensures { result ≡ settingsRead c }
+fn settings_of(c: &CardCall) -> SettingsRead
+    ensures { result ≡ settingsRead c.now }
 {
     if !narrow(c) {
         return SettingsRead::Bad;
@@ -143,13 +143,13 @@ fn settings_of(c: CardCall) -> SettingsRead
 
 // The log of a row, of these settings.
 #[tactic(auto, unfolding(cards::specs::Calls::badRowLog, cards::specs::Rows::rowLog, cards::specs::Calls::otherRow))]
-fn own_log(c: CardCall, r: CardRow) -> LogRead
-    ensures { result ≡ ownLog today c r }
+fn own_log(c: &CardCall, r: &CardRow) -> LogRead
+    ensures { result ≡ ownLog today c.now r.now }
 {
     let SettingsRead::Are(s) = settings_of(c) else {
         return LogRead::Refused(Refusal::Log);
     };
-    let LogRead::Read(l) = card_rows::read_log(r.log) else {
+    let LogRead::Read(l) = card_rows::read_log(&r.log) else {
         return LogRead::Refused(Refusal::Log);
     };
     if rules::images::same_settings(l.settings, s) {
@@ -159,107 +159,94 @@ fn own_log(c: CardCall, r: CardRow) -> LogRead
     }
 }
 
-// The row stays.
-fn stays(row: CardRow, k: Refusal) -> RowAnswer
-    ensures { result ≡ rowAnswer row (tells k) }
-{
-    RowAnswer {
-        row,
-        told: tells(k),
-    }
-}
-
 // An accepted answer changes the row.
-fn answered(row: CardRow, a: Answer) -> RowAnswer
-    ensures { result ≡ rowAnswered row a }
+#[inline(always)]
+fn answered(row: &mut CardRow, a: &Answer) -> Told
+    ensures { rowAnswer row.new result ≡ rowAnswered row.old a.now }
 {
     let refusal = a.refusal;
     let message = a.message;
     let decision = a.decision;
     if tally::number(refusal) == 0 {
-        RowAnswer {
-            row: card_rows::row_of(
-                a.unit.settings,
-                a.unit.logged,
-                a.unit.current,
-                a.unit.checks,
-                a.unit.seconds,
-            ),
-            told: Told {
-                refusal,
-                message,
-                decision,
-            },
-        }
-    } else {
-        stays(row, refusal)
+        *row = card_rows::row_of(
+            a.unit.settings,
+            a.unit.logged,
+            a.unit.current,
+            &a.unit.checks,
+            &a.unit.seconds,
+        );
+        return Told {
+            refusal,
+            message,
+            decision,
+        };
     }
+    tells(refusal)
 }
 
 #[tactic(auto, unfolding(cards::specs::InnerSteps::stepConditions, cards::specs::InnerSteps::unlessRow, consensus::specs::Conditions::firstOf))]
-fn start(c: CardCall, r: CardRow) -> RowAnswer
-    ensures { result ≡ actOf today Act.Start c r }
+fn start(c: &CardCall, r: &mut CardRow) -> Told
+    ensures { rowAnswer r.new result ≡ actOf today Act.Start c.now r.old }
 {
     match settings_of(c) {
-        SettingsRead::Bad => stays(r, Refusal::Log),
-        SettingsRead::Are(s) => RowAnswer {
-            row: card_rows::unmarked(Unit::fresh(s).log()),
-            told: tells(Refusal::None),
-        },
+        SettingsRead::Bad => tells(Refusal::Log),
+        SettingsRead::Are(s) => {
+            *r = card_rows::unmarked(Unit::fresh(s).log());
+            tells(Refusal::None)
+        }
     }
 }
 
-fn key_on(c: CardCall, r: CardRow) -> RowAnswer
-    ensures { result ≡ actOf today Act.KeyOn c r }
+fn key_on(c: &CardCall, r: &mut CardRow) -> Told
+    ensures { rowAnswer r.new result ≡ actOf today Act.KeyOn c.now r.old }
 {
-    match own_log(c, r) {
-        LogRead::Refused(k) => stays(r, k),
-        LogRead::Read(l) => RowAnswer {
-            row: card_rows::unmarked(l),
-            told: tells(Refusal::None),
-        },
+    match own_log(c, &*r) {
+        LogRead::Refused(k) => tells(k),
+        LogRead::Read(l) => {
+            *r = card_rows::unmarked(l);
+            tells(Refusal::None)
+        }
     }
 }
 
 // A step of the unit that a log and a row's image make.
-fn with_log(l: Log, r: CardRow, s: UnitStep) -> RowAnswer
-    ensures { result ≡ withLog today s l r }
+fn with_log(l: Log, r: &mut CardRow, s: UnitStep) -> Told
+    ensures { rowAnswer r.new result ≡ withLog today s l r.old }
 {
-    let StateRead::Fits(state) = card_rows::state_for(r, l) else {
-        return stays(r, Refusal::Image);
+    let StateRead::Fits(state) = card_rows::state_for(&*r, l) else {
+        return tells(Refusal::Image);
     };
     let u = Unit::up(
         l,
         state,
-        card_rows::tally_of(r.checks),
-        card_rows::tally_of(r.seconds),
+        card_rows::tally_of(&r.checks),
+        card_rows::tally_of(&r.seconds),
     );
-    let a = match s {
-        UnitStep::Propose(v) => u.propose(v),
-        UnitStep::Deliver(m) => u.deliver(m),
-    };
-    answered(r, a)
+    match s {
+        UnitStep::Propose(v) => answered(r, &u.propose(v)),
+        UnitStep::Deliver(m) => answered(r, &u.deliver(m)),
+    }
 }
 
 // A step of the row's unit.
-fn on_unit(c: CardCall, r: CardRow, s: UnitStep) -> RowAnswer
-    ensures { result ≡ actOf today (Act.Step s) c r }
+fn on_unit(c: &CardCall, r: &mut CardRow, s: UnitStep) -> Told
+    ensures { rowAnswer r.new result ≡ actOf today (Act.Step s) c.now r.old }
 {
-    match own_log(c, r) {
-        LogRead::Refused(k) => stays(r, k),
+    match own_log(c, &*r) {
+        LogRead::Refused(k) => tells(k),
         LogRead::Read(l) => with_log(l, r, s),
     }
 }
 
-// The step on a row.
+// The step on a row, which stays where it is refused.
 #[tactic(auto, unfolding(cards::specs::InnerSteps::stepOf))]
-fn step_row(c: CardCall, r: CardRow) -> RowAnswer
-    ensures { result ≡ stepOf today c r }
+fn step_row(c: &CardCall, r: &mut CardRow) -> Told
+    ensures { rowAnswer r.new result ≡ stepOf today c.now r.old }
 {
     let act = c.act;
     match act {
-        Act::WrongLength => stays(r, Refusal::Length),
-        Act::Malformed => stays(r, Refusal::Message),
+        Act::WrongLength => tells(Refusal::Length),
+        Act::Malformed => tells(Refusal::Message),
         Act::Start => start(c, r),
         Act::KeyOn => key_on(c, r),
         Act::Step(s) => on_unit(c, r, s),
@@ -267,29 +254,17 @@ fn step_row(c: CardCall, r: CardRow) -> RowAnswer
 }
 
 // ---- on the card
-fn row_of(a: RowAnswer) -> CardRow
-    ensures { result ≡ a.row }
-{
-    a.row
-}
-
-fn told_of(a: RowAnswer) -> Told
-    ensures { result ≡ a.told }
-{
-    a.told
-}
-
 // The row is copied out, the step taken, and the row stored back.
 #[tactic(auto, unfolding(cards::specs::InnerSteps::cardTold, cards::specs::InnerSteps::cardRows))]
 pub fn on_row(c: CardCall, rows: &mut [CardRow]) -> Told
     ensures { (result ≡ cardTold today c rows.old) × (rows.new ≡ cardRows today c rows.old) }
 {
-    let k = place(c, rows.len());
+    let k = place(&c, rows.len());
     if rows.len() <= k {
-        return refused(c, rows.len());
+        return refused(&c, rows.len());
     }
-    let r = rows[k];
-    let s = step_row(c, r);
-    rows[k] = row_of(s);
-    told_of(s)
+    let mut r = rows[k];
+    let told = step_row(&c, &mut r);
+    rows[k] = r;
+    told
 }

@@ -23,8 +23,8 @@ use tally::{Cell, Engine, Refusal, Tally, limits};
 // ---- from a row
 // Does each number fit its bytes?
 #[tactic(auto, unfolding(calls::specs::InnerFields::logNarrow))]
-fn narrow(f: LogFields) -> bool
-    ensures { result ≡ logNarrow today (numbersOf f) }
+fn narrow(f: &LogFields) -> bool
+    ensures { result ≡ logNarrow today (numbersOf f.now) }
 {
     (f.engine < 256)
         & (f.n < 256)
@@ -34,9 +34,9 @@ fn narrow(f: LogFields) -> bool
 }
 
 #[tactic(auto, unfolding(calls::specs::InnerFields::logNarrow))]
-fn log_of(engine: Engine, f: LogFields) -> Log
-    requires { logNarrow today (numbersOf f) ≡ true }
-    ensures { result ≡ logOf engine (numbersOf f) }
+fn log_of(engine: Engine, f: &LogFields) -> Log
+    requires { logNarrow today (numbersOf f.now) ≡ true }
+    ensures { result ≡ logOf engine (numbersOf f.now) }
 {
     Log {
         settings: Settings {
@@ -56,8 +56,8 @@ fn log_of(engine: Engine, f: LogFields) -> Log
 
 // The log of eight numbers, where they are well formed.
 #[tactic(auto, unfolding(calls::specs::InnerFields::logNarrow))]
-pub fn read_log(f: LogFields) -> LogRead
-    ensures { result ≡ logReadOf (fromNumbers (logFormat today) (numbersOf f)) }
+pub fn read_log(f: &LogFields) -> LogRead
+    ensures { result ≡ logReadOf (fromNumbers (logFormat today) (numbersOf f.now)) }
 {
     if !narrow(f) {
         return LogRead::Refused(Refusal::Log);
@@ -74,16 +74,16 @@ pub fn read_log(f: LogFields) -> LogRead
 }
 
 // Are there no marks above the last sender's?
-fn marks_fit(f: TallyFields) -> bool
-    ensures { result ≡ marksFit f }
+fn marks_fit(f: &TallyFields) -> bool
+    ensures { result ≡ marksFit f.now }
 {
     f.marks < 65536
 }
 
 // Are all sixteen estimates blank?
 #[tactic(auto, unfolding(contents::specs::Images::every))]
-fn blanks(f: TallyFields) -> bool
-    ensures { result ≡ every senders (λ u. isBlank (estimateOf (get_or f.estimates u 0))) }
+fn blanks(f: &TallyFields) -> bool
+    ensures { result ≡ every senders (λ u. isBlank (estimateOf (get_or f.now.estimates u 0))) }
 {
     let mut ok = true;
     let mut i: usize = 0;
@@ -96,9 +96,9 @@ fn blanks(f: TallyFields) -> bool
 
 // A tally without marks is tested in one pass.
 #[tactic(auto, unfolding(contents::specs::Images::every))]
-fn cells_ok(f: TallyFields, split: bool, n: u8) -> bool
-    requires { f.marks < 2 ^ senders }
-    ensures { result ≡ cellsOk today split n (rowTally f) }
+fn cells_ok(f: &TallyFields, split: bool, n: u8) -> bool
+    requires { f.now.marks < 2 ^ senders }
+    ensures { result ≡ cellsOk today split n (rowTally f.now) }
 {
     let marks = f.marks as u16;
     if marks == 0 {
@@ -114,21 +114,19 @@ fn cells_ok(f: TallyFields, split: bool, n: u8) -> bool
 }
 
 #[tactic(auto, unfolding(contents::specs::Images::tallyOk))]
-fn tally_ok(f: TallyFields, split: bool, engine: Engine, n: u8) -> bool
-    requires { f.marks < 2 ^ senders }
-    ensures { result ≡ tallyOk today split engine n (rowTally f) }
+fn tally_ok(f: &TallyFields, split: bool, engine: Engine, n: u8) -> bool
+    requires { f.now.marks < 2 ^ senders }
+    ensures { result ≡ tallyOk today split engine n (rowTally f.now) }
 {
     cells_ok(f, split, n) & (u16::count_ones(f.marks as u16) < tally::quorum(engine, n))
 }
 
 // Are the tallies, beside these first contents of an image, well formed, and does all of it fit the log?
 #[tactic(auto, unfolding(contents::specs::Images::fits))]
-fn fits(r: CardRow, front: Log, log: Log) -> bool
-    ensures { result ≡ rowFits today r front log }
+fn fits(r: &CardRow, front: Log, log: Log) -> bool
+    ensures { result ≡ rowFits today r.now front log }
 {
-    let checks = r.checks;
-    let seconds = r.seconds;
-    if !(marks_fit(checks) & marks_fit(seconds)) {
+    if !(marks_fit(&r.checks) & marks_fit(&r.seconds)) {
         return false;
     }
     let settings = front.settings;
@@ -138,20 +136,19 @@ fn fits(r: CardRow, front: Log, log: Log) -> bool
     let logged_settings = log.settings;
     let logged = log.state;
     let split = rules::estimates::is_b(engine);
-    let sound = tally_ok(checks, false, engine, settings.n)
-        & tally_ok(seconds, split, engine, settings.n);
-    let allowed = rules::images::checks_allowed(engine, second, checks.marks as u16);
+    let sound = tally_ok(&r.checks, false, engine, settings.n)
+        & tally_ok(&r.seconds, split, engine, settings.n);
+    let allowed = rules::images::checks_allowed(engine, second, r.checks.marks as u16);
     let fit = rules::images::same_settings(settings, logged_settings)
         & rules::images::state_fits(state, logged);
     sound & allowed & fit
 }
 
 // The state of a row's image that is well formed and fits the log.
-pub fn state_for(r: CardRow, log: Log) -> StateRead
-    ensures { result ≡ fitState (rowImage today r) log }
+pub fn state_for(r: &CardRow, log: Log) -> StateRead
+    ensures { result ≡ fitState (rowImage today r.now) log }
 {
-    let image = r.image;
-    let LogRead::Read(front) = read_log(image) else {
+    let LogRead::Read(front) = read_log(&r.image) else {
         return StateRead::Unfit;
     };
     let state = front.state;
@@ -162,10 +159,17 @@ pub fn state_for(r: CardRow, log: Log) -> StateRead
     }
 }
 
-pub fn tally_of(f: TallyFields) -> Tally
-    requires { f.marks < 2 ^ senders }
-    ensures { result ≡ rowTally f }
+// Sixteen blanks are known in one pass.
+pub fn tally_of(f: &TallyFields) -> Tally
+    requires { f.now.marks < 2 ^ senders }
+    ensures { result ≡ rowTally f.now }
 {
+    if blanks(f) {
+        return Tally {
+            marks: f.marks as u16,
+            cells: tally::NO_CELLS,
+        };
+    }
     let mut cells = tally::NO_CELLS;
     let mut i: usize = 0;
     while i < limits::SENDERS {
@@ -245,11 +249,11 @@ pub fn row_of(
     settings: Settings,
     logged: State,
     current: State,
-    checks: Tally,
-    seconds: Tally,
+    checks: &Tally,
+    seconds: &Tally,
 ) -> CardRow
     ensures { result ≡ rowOf (upUnit (record { settings = settings; state = logged })
-        (record { settings = settings; state = current; checks = checks; seconds = seconds })) }
+        (record { settings = settings; state = current; checks = checks.now; seconds = seconds.now })) }
 {
     CardRow {
         log: log_fields(Log {
@@ -260,7 +264,7 @@ pub fn row_of(
             settings,
             state: current,
         }),
-        checks: tally_fields(checks),
-        seconds: tally_fields(seconds),
+        checks: tally_fields(*checks),
+        seconds: tally_fields(*seconds),
     }
 }

@@ -1,10 +1,12 @@
 // The methods of a unit: what is refused first, and else the step. Each hands back the unit after it.
 ghost use Rattle.std.specs.Prelude.{◌≡◌, true, ◌<◌};
 ghost use Rattle.tally.specs.Limits.{today, senders};
-ghost use Rattle.contents.specs.Messages.{messageOk};
+ghost use Rattle.tally.specs.declared.Estimate.TheVariants.{Blank};
+ghost use Rattle.contents.specs.Messages.{emptyMessage, messageOk};
 ghost use Rattle.consensus.specs.Methods.{isUp, forOther, outOfRange, isSecond, closesLast, refuses, propose, deliver, keyOff, keyOn};
 ghost use Rattle.consensus.specs.InnerMethods.{deliverRead};
 
+use super::step::{NOTHING, Said};
 use super::{Answer, Power, Unit, step};
 use contents::{Kind, Message, Settings};
 use rules::{estimates, messages};
@@ -51,12 +53,29 @@ fn is_second(kind: Kind) -> bool
     }
 }
 
+// What a method answers beside the unit.
+#[derive(Clone, Copy)]
+struct Taken {
+    refusal: Refusal,
+    said: Said,
+}
+
+// A refusal sends nothing and decides nothing.
+fn turned_down(refusal: Refusal) -> Taken
+    ensures { (result.refusal ≡ refusal) × ((result.said.message ≡ emptyMessage) × (result.said.decision ≡ Blank)) }
+{
+    Taken {
+        refusal,
+        said: NOTHING,
+    }
+}
+
 impl Unit {
     // Would this SECOND close the last round?
     #[tactic(auto, unfolding(crate::specs::Methods::closesLast, crate::specs::Step::isFull, crate::specs::Step::secondsWith))]
-    fn closes_last(self, m: Message) -> bool
+    fn closes_last(&self, m: Message) -> bool
         requires { m.sender < senders }
-        ensures { result ≡ closesLast today self m }
+        ensures { result ≡ closesLast today self.now m }
     {
         let kind = m.kind;
         if is_second(kind)
@@ -64,7 +83,7 @@ impl Unit {
             & (self.current.round == limits::LAST_ROUND)
         {
             !tally::is_marked(self.seconds.marks, m.sender)
-                & step::is_full(self.settings, step::marked(self.seconds, m))
+                & step::is_full(self.settings, &step::marked(&self.seconds, m))
         } else {
             false
         }
@@ -82,17 +101,51 @@ impl Unit {
         }
     }
 
+    // What was taken, beside the unit after it.
+    fn answers(self, taken: Taken) -> Answer
+        ensures { result ≡ record { refusal = taken.refusal; unit = self; message = taken.said.message; decision = taken.said.decision } }
+    {
+        Answer {
+            refusal: taken.refusal,
+            unit: self,
+            message: taken.said.message,
+            decision: taken.said.decision,
+        }
+    }
+
     // A delivery of a message found well formed and for this unit, which is up: 7 is the one refusal left.
     #[tactic(auto, unfolding(crate::specs::InnerMethods::deliverRead, crate::specs::Methods::unless, crate::specs::Conditions::firstOf))]
-    fn deliver_read(self, m: Message) -> Answer
+    fn deliver_read(&mut self, m: Message) -> Taken
         requires { messageOk today m ≡ true }
-        ensures { result ≡ deliverRead today self m }
+        ensures { deliverRead today self.old m
+            ≡ record { refusal = result.refusal; unit = self.new; message = result.said.message; decision = result.said.decision } }
     {
         if self.closes_last(m) {
-            self.refused(Refusal::LastRound)
-        } else {
-            self.received(m)
+            return turned_down(Refusal::LastRound);
         }
+        Taken {
+            refusal: Refusal::None,
+            said: self.received(m),
+        }
+    }
+
+    // A delivery, in place.
+    fn take(&mut self, m: Message) -> Taken
+        ensures { deliver today self.old m
+            ≡ record { refusal = result.refusal; unit = self.new; message = result.said.message; decision = result.said.decision } }
+    {
+        let power = self.power;
+        let settings = self.settings;
+        if !messages::well_formed(m) {
+            return turned_down(Refusal::Message);
+        }
+        if !is_up(power) {
+            return turned_down(Refusal::Power);
+        }
+        if for_other(settings, m) {
+            return turned_down(Refusal::Addressee);
+        }
+        self.deliver_read(m)
     }
 
     // Proposes a mileage.
@@ -110,21 +163,12 @@ impl Unit {
     }
 
     // Takes a message.
-    pub fn deliver(self, m: Message) -> Answer
+    #[inline(always)]
+    pub fn deliver(mut self, m: Message) -> Answer
         ensures { result ≡ deliver today self m }
     {
-        let power = self.power;
-        let settings = self.settings;
-        if !messages::well_formed(m) {
-            return self.refused(Refusal::Message);
-        }
-        if !is_up(power) {
-            return self.refused(Refusal::Power);
-        }
-        if for_other(settings, m) {
-            return self.refused(Refusal::Addressee);
-        }
-        self.deliver_read(m)
+        let taken = self.take(m);
+        self.answers(taken)
     }
 
     // The unit goes down, and its image is lost.

@@ -4,7 +4,7 @@ ghost use Rattle.std.specs.Int.Count.{ones};
 ghost use Rattle.tally.specs.Limits.{today, senders};
 ghost use Rattle.tally.specs.Quorum.{quorumOf};
 ghost use Rattle.tally.specs.Tally.{mark};
-ghost use Rattle.consensus.specs.Step.{gives, quiet, says, sends, withCurrent, withChecks, withSeconds, logWrite, clean, atRound, fresh, recovered};
+ghost use Rattle.consensus.specs.Step.{gives, quiet, says, sends, logWrite, clean, atRound, fresh, recovered};
 ghost use Rattle.consensus.specs.Step.{orIfBlank, sendFirst, proposed, voteKind, voteProposal, takeFirst, onFirst, takeSecond, countCheck, onCheck};
 ghost use Rattle.consensus.specs.Step.{decided, nextProposal, close, countSecond, onSecond, onKind, skip, caughtUp, received};
 
@@ -25,6 +25,19 @@ pub const EMPTY: Message = Message {
     round: 0,
     estimate: Estimate::Blank,
     proposal: Estimate::Blank,
+};
+
+// What a step tells beside the unit: the message to send, and a mileage decided or blank.
+#[derive(Clone, Copy)]
+pub(crate) struct Said {
+    pub(crate) message: Message,
+    pub(crate) decision: Estimate,
+}
+
+// Nothing is sent, nothing decided.
+pub(crate) const NOTHING: Said = Said {
+    message: EMPTY,
+    decision: Estimate::Blank,
 };
 
 // The state at the beginning of a round.
@@ -78,8 +91,8 @@ fn decided(e: Estimate) -> Estimate
 
 // The proposal of the next round, of the SECONDs gathered.
 #[tactic(auto, unfolding(crate::specs::Step::nextProposal))]
-fn next_proposal(engine: Engine, n: u8, t: Tally, own: Estimate) -> Estimate
-    ensures { result ≡ nextProposal engine n t own }
+fn next_proposal(engine: Engine, n: u8, t: &Tally, own: Estimate) -> Estimate
+    ensures { result ≡ nextProposal engine n t.now own }
 {
     match engine {
         Engine::B => or_if_blank(t.lowest(), own),
@@ -88,32 +101,32 @@ fn next_proposal(engine: Engine, n: u8, t: Tally, own: Estimate) -> Estimate
 }
 
 // Is the quorum there?
-pub(crate) fn is_full(s: Settings, t: Tally) -> bool
-    ensures { result ≡ leb (quorumOf s.engine s.n) (ones t.marks) }
+pub(crate) fn is_full(s: Settings, t: &Tally) -> bool
+    ensures { result ≡ leb (quorumOf s.engine s.n) (ones t.now.marks) }
 {
     let engine = s.engine;
     tally::quorum(engine, s.n) <= t.count()
 }
 
 // A tally with a message's sender marked, and its estimate.
-pub(crate) fn marked(t: Tally, m: Message) -> Tally
+pub(crate) fn marked(t: &Tally, m: Message) -> Tally
     requires { m.sender < senders }
-    ensures { result ≡ mark t m.sender m.estimate }
+    ensures { result ≡ mark t.now m.sender m.estimate }
 {
     let estimate = m.estimate;
     t.mark(m.sender, estimate)
 }
 
 impl Unit {
-    // ---- answers
-    fn gives(self, message: Message, decision: Estimate) -> Answer
-        ensures { result ≡ gives self message decision }
+    // ---- answers: a step changes the unit where it stands, and its answer is given once
+    fn gives(self, said: Said) -> Answer
+        ensures { result ≡ gives self said.message said.decision }
     {
         Answer {
             refusal: Refusal::None,
             unit: self,
-            message,
-            decision,
+            message: said.message,
+            decision: said.decision,
         }
     }
 
@@ -121,13 +134,13 @@ impl Unit {
     pub(crate) fn quiet(self) -> Answer
         ensures { result ≡ quiet self }
     {
-        self.gives(EMPTY, Estimate::Blank)
+        self.gives(NOTHING)
     }
 
     // A message of this unit, with its round.
     #[tactic(auto, unfolding(crate::specs::Step::says))]
-    fn says(self, kind: Kind, receiver: u8, estimate: Estimate, proposal: Estimate) -> Message
-        ensures { result ≡ says self kind receiver estimate proposal }
+    fn says(&self, kind: Kind, receiver: u8, estimate: Estimate, proposal: Estimate) -> Message
+        ensures { result ≡ says self.now kind receiver estimate proposal }
     {
         let settings = self.settings;
         let engine = settings.engine;
@@ -144,57 +157,35 @@ impl Unit {
         }
     }
 
-    fn sends(self, kind: Kind, receiver: u8, estimate: Estimate, proposal: Estimate) -> Answer
-        ensures { result ≡ sends self kind receiver estimate proposal }
+    fn sends(&self, kind: Kind, receiver: u8, estimate: Estimate, proposal: Estimate) -> Said
+        ensures { gives self.now result.message result.decision ≡ sends self.now kind receiver estimate proposal }
     {
-        self.gives(
-            self.says(kind, receiver, estimate, proposal),
-            Estimate::Blank,
-        )
+        Said {
+            message: self.says(kind, receiver, estimate, proposal),
+            decision: Estimate::Blank,
+        }
     }
 
     // ---- the unit with one thing replaced
-    fn with_current(self, current: State) -> Unit
-        ensures { result ≡ withCurrent self current }
-    {
-        Unit { current, ..self }
-    }
-
-    fn with_checks(self, checks: Tally) -> Unit
-        ensures { result ≡ withChecks self checks }
-    {
-        Unit { checks, ..self }
-    }
-
-    fn with_seconds(self, seconds: Tally) -> Unit
-        ensures { result ≡ withSeconds self seconds }
-    {
-        Unit { seconds, ..self }
-    }
-
     // A log write stores the whole record.
     #[tactic(auto, unfolding(crate::specs::Step::logWrite))]
-    fn log_write(self, state: State) -> Unit
-        ensures { result ≡ logWrite self state }
+    fn log_write(&mut self, state: State)
+        ensures { self.new ≡ logWrite self.old state }
     {
-        Unit {
-            logged: state,
-            current: state,
-            ..self
-        }
+        self.logged = state;
+        self.current = state;
     }
 
     // The unit takes a round and a proposal, and blanks both estimates and all marks.
     #[tactic(auto, unfolding(crate::specs::Step::atRound))]
-    fn at_round(mut self, round: Round, proposal: Estimate) -> Unit
-        ensures { result ≡ atRound self round proposal }
+    fn at_round(&mut self, round: Round, proposal: Estimate)
+        ensures { self.new ≡ atRound self.old round proposal }
     {
         let current = clean(round, proposal);
         let none = Tally::empty();
         self.current = current;
         self.checks = none;
         self.seconds = none;
-        self
     }
 
     // ---- starting, and key-on
@@ -219,42 +210,37 @@ impl Unit {
     // ---- to propose
     // FIRST goes out with round and proposal.
     #[tactic(auto, unfolding(crate::specs::Step::sendFirst))]
-    fn send_first(self, p: Estimate) -> Answer
-        ensures { result ≡ sendFirst self p }
+    fn send_first(&mut self, p: Estimate) -> Said
+        ensures { gives self.new result.message result.decision ≡ sendFirst self.old p }
     {
-        let current = self.current;
-        self.with_current(State {
-            proposal: p,
-            ..current
-        })
-        .sends(Kind::First, limits::EVERYONE, p, p)
+        self.current.proposal = p;
+        self.sends(Kind::First, limits::EVERYONE, p, p)
     }
 
     // If the proposal is blank it becomes the mileage given.
     #[tactic(auto, unfolding(crate::specs::Step::proposed))]
-    pub(crate) fn proposed(self, mileage: u32) -> Answer
+    pub(crate) fn proposed(mut self, mileage: u32) -> Answer
         ensures { result ≡ proposed self mileage }
     {
-        let current = self.current;
-        let proposal = current.proposal;
-        self.send_first(or_if_blank(proposal, Estimate::Mileage(mileage)))
+        let proposal = self.current.proposal;
+        let said = self.send_first(or_if_blank(proposal, Estimate::Mileage(mileage)));
+        self.gives(said)
     }
 
     // ---- FIRST
     // The first estimate becomes the proposal received; log; B sends CHECK, R sends SECOND.
     #[tactic(auto, unfolding(crate::specs::Step::takeFirst))]
-    fn take_first(self, e: Estimate) -> Answer
-        ensures { result ≡ takeFirst self e }
+    fn take_first(&mut self, e: Estimate) -> Said
+        ensures { gives self.new result.message result.decision ≡ takeFirst self.old e }
     {
-        let settings = self.settings;
-        let engine = settings.engine;
+        let engine = self.settings.engine;
         let current = self.current;
         let own = current.proposal;
         self.log_write(State {
             first: e,
             ..current
-        })
-        .sends(
+        });
+        self.sends(
             vote_kind(engine),
             limits::EVERYONE,
             e,
@@ -263,147 +249,144 @@ impl Unit {
     }
 
     #[tactic(auto, unfolding(crate::specs::Step::onFirst))]
-    fn on_first(self, m: Message) -> Answer
-        ensures { result ≡ onFirst self m }
+    fn on_first(&mut self, m: Message) -> Said
+        ensures { gives self.new result.message result.decision ≡ onFirst self.old m }
     {
-        let current = self.current;
-        let first = current.first;
+        let first = self.current.first;
         let proposal = m.proposal;
         if estimates::is_blank(first) {
-            self.take_first(proposal)
-        } else {
-            self.quiet()
+            return self.take_first(proposal);
         }
+        NOTHING
     }
 
     // ---- CHECK
     // The second estimate is set; log; CHECK marks are cleared; SECOND goes out.
     #[tactic(auto, unfolding(crate::specs::Step::takeSecond))]
-    fn take_second(self, e: Estimate) -> Answer
-        ensures { result ≡ takeSecond self e }
+    fn take_second(&mut self, e: Estimate) -> Said
+        ensures { gives self.new result.message result.decision ≡ takeSecond self.old e }
     {
         let current = self.current;
         let own = current.proposal;
         self.log_write(State {
             second: e,
             ..current
-        })
-        .with_checks(Tally::empty())
-        .sends(Kind::Second, limits::EVERYONE, e, own)
+        });
+        self.checks = Tally::empty();
+        self.sends(Kind::Second, limits::EVERYONE, e, own)
     }
 
     #[tactic(auto, unfolding(crate::specs::Step::countCheck, crate::specs::Step::isFull))]
-    fn count_check(self, t: Tally) -> Answer
-        ensures { result ≡ countCheck self t }
+    fn count_check(&mut self, t: &Tally) -> Said
+        ensures { gives self.new result.message result.decision ≡ countCheck self.old t.now }
     {
         if is_full(self.settings, t) {
-            self.take_second(t.common())
-        } else {
-            self.with_checks(t).quiet()
+            return self.take_second(t.common());
         }
+        self.checks = *t;
+        NOTHING
     }
 
     #[tactic(auto, unfolding(crate::specs::Step::onCheck, crate::specs::Step::checksWith))]
-    fn on_check(self, m: Message) -> Answer
+    fn on_check(&mut self, m: Message) -> Said
         requires { m.sender < senders }
-        ensures { result ≡ onCheck self m }
+        ensures { gives self.new result.message result.decision ≡ onCheck self.old m }
     {
-        let current = self.current;
-        let second = current.second;
+        let second = self.current.second;
         if estimates::is_blank(second) & !tally::is_marked(self.checks.marks, m.sender) {
-            self.count_check(marked(self.checks, m))
-        } else {
-            self.quiet()
+            let t = marked(&self.checks, m);
+            return self.count_check(&t);
         }
+        NOTHING
     }
 
     // ---- SECOND
     // A mileage that all gathered hold is decided; the round rises by 1, estimates and marks are blanked.
     #[tactic(auto, unfolding(crate::specs::Step::close))]
-    fn close(self, t: Tally) -> Answer
-        requires { self.current.round ≤ today.lastRound }
-        ensures { result ≡ close self t }
+    fn close(&mut self, t: &Tally) -> Said
+        requires { self.old.current.round ≤ today.lastRound }
+        ensures { gives self.new result.message result.decision ≡ close self.old t.now }
     {
         let settings = self.settings;
         let engine = settings.engine;
         let current = self.current;
         let own = current.proposal;
-        self.at_round(current.round + 1, next_proposal(engine, settings.n, t, own))
-            .gives(EMPTY, decided(t.common()))
+        self.at_round(current.round + 1, next_proposal(engine, settings.n, t, own));
+        Said {
+            message: EMPTY,
+            decision: decided(t.common()),
+        }
     }
 
     #[tactic(auto, unfolding(crate::specs::Step::countSecond, crate::specs::Step::isFull))]
-    fn count_second(self, t: Tally) -> Answer
-        requires { self.current.round ≤ today.lastRound }
-        ensures { result ≡ countSecond self t }
+    fn count_second(&mut self, t: &Tally) -> Said
+        requires { self.old.current.round ≤ today.lastRound }
+        ensures { gives self.new result.message result.decision ≡ countSecond self.old t.now }
     {
         if is_full(self.settings, t) {
-            self.close(t)
-        } else {
-            self.with_seconds(t).quiet()
+            return self.close(t);
         }
+        self.seconds = *t;
+        NOTHING
     }
 
     #[tactic(auto, unfolding(crate::specs::Step::onSecond, crate::specs::Step::secondsWith))]
-    fn on_second(self, m: Message) -> Answer
-        requires { (m.sender < senders) × (self.current.round ≤ today.lastRound) }
-        ensures { result ≡ onSecond self m }
+    fn on_second(&mut self, m: Message) -> Said
+        requires { (m.sender < senders) × (self.old.current.round ≤ today.lastRound) }
+        ensures { gives self.new result.message result.decision ≡ onSecond self.old m }
     {
         if tally::is_marked(self.seconds.marks, m.sender) {
-            self.quiet()
-        } else {
-            self.count_second(marked(self.seconds, m))
+            return NOTHING;
         }
+        let t = marked(&self.seconds, m);
+        self.count_second(&t)
     }
 
     // ---- any message
     #[tactic(auto, unfolding(crate::specs::Step::onKind))]
-    fn on_kind(self, kind: Kind, m: Message) -> Answer
-        requires { (m.sender < senders) × (self.current.round ≤ today.lastRound) }
-        ensures { result ≡ onKind kind self m }
+    fn on_kind(&mut self, kind: Kind, m: Message) -> Said
+        requires { (m.sender < senders) × (self.old.current.round ≤ today.lastRound) }
+        ensures { gives self.new result.message result.decision ≡ onKind kind self.old m }
     {
         match kind {
-            Kind::Empty => self.quiet(),
+            Kind::Empty => NOTHING,
             Kind::First => self.on_first(m),
             Kind::Check => self.on_check(m),
             Kind::Second => self.on_second(m),
-            Kind::Skip => self.quiet(),
+            Kind::Skip => NOTHING,
         }
     }
 
     // SKIP goes to the sender of a message below the unit's round.
     #[tactic(auto, unfolding(crate::specs::Step::skip))]
-    fn skip(self, receiver: u8) -> Answer
-        ensures { result ≡ skip self receiver }
+    fn skip(&self, receiver: u8) -> Said
+        ensures { gives self.now result.message result.decision ≡ skip self.now receiver }
     {
-        let current = self.current;
-        let own = current.proposal;
+        let own = self.current.proposal;
         self.sends(Kind::Skip, receiver, Estimate::Blank, own)
     }
 
     // A message above the unit's round raises it.
     #[tactic(auto, unfolding(crate::specs::Step::caughtUp))]
-    fn caught_up(self, m: Message) -> Unit
-        ensures { result ≡ caughtUp self m }
+    fn caught_up(&mut self, m: Message)
+        ensures { self.new ≡ caughtUp self.old m }
     {
         let proposal = m.proposal;
         if self.current.round < m.round {
-            self.at_round(m.round, proposal)
-        } else {
-            self
+            self.at_round(m.round, proposal);
         }
     }
 
     #[tactic(auto, unfolding(crate::specs::Step::received))]
-    pub(crate) fn received(self, m: Message) -> Answer
+    pub(crate) fn received(&mut self, m: Message) -> Said
         requires { (m.sender < senders) × (m.round ≤ today.lastRound) }
-        ensures { result ≡ received self m }
+        ensures { gives self.new result.message result.decision ≡ received self.old m }
     {
         let kind = m.kind;
         if m.round < self.current.round {
-            self.skip(m.sender)
-        } else {
-            self.caught_up(m).on_kind(kind, m)
+            return self.skip(m.sender);
         }
+        self.caught_up(m);
+        self.on_kind(kind, m)
     }
 }

@@ -165,29 +165,26 @@ impl Tally {
     }
 
     #[tactic(auto, unfolding(crate::specs::Tally::mark))]
-    pub fn mark(self, sender: u8, estimate: Estimate) -> Tally
+    pub fn mark(mut self, sender: u8, estimate: Estimate) -> Tally
         requires { sender < senders }
         ensures { result ≡ mark self sender estimate }
     {
         let at = sender as usize;
-        let mut cells = self.cells;
-        cells[at] = Cell { estimate };
-        Tally {
-            marks: with_mark(self.marks, sender),
-            cells,
-        }
+        self.marks = with_mark(self.marks, sender);
+        self.cells[at] = Cell { estimate };
+        self
     }
 
     // How many senders are marked.
-    pub fn count(self) -> u32
-        ensures { result ≡ ones self.marks }
+    pub fn count(&self) -> u32
+        ensures { result ≡ ones self.now.marks }
     {
         u16::count_ones(self.marks)
     }
 
     // How many of the marked hold the mileage v.
-    fn holders(self, v: u32) -> u32
-        ensures { result ≡ holders v (gathered self) }
+    fn holders(&self, v: u32) -> u32
+        ensures { result ≡ holders v (gathered self.now) }
     {
         let mut found: u32 = 0;
         for s in 0..limits::MAX_UNITS {
@@ -202,8 +199,8 @@ impl Tally {
     }
 
     // The mileage of the lowest marked sender that has one; blank where none has.
-    pub fn lowest(self) -> Estimate
-        ensures { result ≡ lowest (gathered self) }
+    pub fn lowest(&self) -> Estimate
+        ensures { result ≡ lowest (gathered self.now) }
     {
         for s in 0..limits::MAX_UNITS {
             let at = s as usize;
@@ -217,8 +214,8 @@ impl Tally {
     }
 
     // The mileage that all the marked hold; split where they differ. One loop, with no call that takes the tally: it is never copied.
-    pub fn common(self) -> Estimate
-        ensures { result ≡ common (gathered self) }
+    pub fn common(&self) -> Estimate
+        ensures { result ≡ common (gathered self.now) }
     {
         let mut all = Estimate::Blank;
         for s in 0..limits::MAX_UNITS {
@@ -242,8 +239,8 @@ impl Tally {
 
     // Is it a mileage that at least `need` of the marked hold?
     #[tactic(auto, unfolding(crate::specs::Gathered::leads))]
-    fn leads(self, need: u32, e: Estimate) -> bool
-        ensures { result ≡ leads need (gathered self) e }
+    fn leads(&self, need: u32, e: Estimate) -> bool
+        ensures { result ≡ leads need (gathered self.now) e }
     {
         match e {
             Estimate::Blank => false,
@@ -254,17 +251,17 @@ impl Tally {
 
     // The mileage that at least `need` of the marked hold; blank where there is none.
     #[tactic(auto, unfolding(crate::specs::Gathered::majority, crate::specs::Tally::gathered))]
-    pub fn majority(self, need: u32) -> Estimate
-        ensures { result ≡ majority need (gathered self) }
+    pub fn majority(&self, need: u32) -> Estimate
+        ensures { result ≡ majority need (gathered self.now) }
     {
         leader_from(self, need, 0)
     }
 }
 
 // The first estimate, from a unit number on, that leads: a recursion over unit numbers.
-fn leader_from(t: Tally, need: u32, sender: u8) -> Estimate
+fn leader_from(t: &Tally, need: u32, sender: u8) -> Estimate
     requires { sender ≤ senders }
-    ensures { result ≡ firstPassing (leads need (gathered t)) (gatheredFrom t sender (senders - sender)) }
+    ensures { result ≡ firstPassing (leads need (gathered t.now)) (gatheredFrom t.now sender (senders - sender)) }
 {
     if sender == limits::MAX_UNITS {
         return Estimate::Blank;

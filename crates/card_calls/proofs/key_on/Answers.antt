@@ -5,8 +5,8 @@ use Rattle.cards.proofs.Steps.{key-on-step}
 use Rattle.card_calls.proofs.key_on.Goals as goal
 
 pub returns-in-Refused : goal.returns-in-Refused
-returns-in-Refused c = rw (key-on-step today c.args.c c.args.r, sym c.own_log.ensures ∙ c.in-Refused.is) c.stays.ensures
+returns-in-Refused c = rw (key-on-step today c.args.c.now c.args.r.now, sym c.own_log.ensures ∙ c.in-Refused.is, c.tells.ensures)
 
 pub returns-in-Read : goal.returns-in-Read
 returns-in-Read c =
-    rw (key-on-step today c.args.c c.args.r, sym c.own_log.ensures ∙ c.in-Read.is, c.tells.ensures, c.unmarked.ensures)
+    rw (key-on-step today c.args.c.now c.args.r.now, sym c.own_log.ensures ∙ c.in-Read.is, c.tells-in-Read.ensures, c.unmarked.ensures)

@@ -5,7 +5,7 @@ use Rattle.cards.proofs.Steps.{unit-step}
 use Rattle.card_calls.proofs.on_unit.Goals as goal
 
 pub returns-in-Refused : goal.returns-in-Refused
-returns-in-Refused c = rw (unit-step today c.args.c c.args.r c.args.s, sym c.own_log.ensures ∙ c.in-Refused.is) c.stays.ensures
+returns-in-Refused c = rw (unit-step today c.args.c.now c.args.r.now c.args.s, sym c.own_log.ensures ∙ c.in-Refused.is, c.tells.ensures)
 
 pub returns-in-Read : goal.returns-in-Read
-returns-in-Read c = rw (unit-step today c.args.c c.args.r c.args.s, sym c.own_log.ensures ∙ c.in-Read.is) c.with_log.ensures
+returns-in-Read c = rw (unit-step today c.args.c.now c.args.r.now c.args.s, sym c.own_log.ensures ∙ c.in-Read.is) c.with_log.ensures

@@ -7,4 +7,4 @@ use Rattle.card_calls.proofs.place.Goals as goal
 pub overflow_sub-result : goal.overflow_sub-result
 overflow_sub-result c =
     let none = sym (ap numberOf c.front.ensures) ∙ sym c.number.ensures ∙ c.if-number-eq0.true in
-    omega (arith, c.wide.ensures, (front-row c.args.c c.args.count none).0)
+    omega (arith, c.wide.ensures, (front-row c.args.c.now c.args.count none).0)

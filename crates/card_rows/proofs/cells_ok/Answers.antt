@@ -12,8 +12,8 @@ pub returns-then-marks-eq0 : goal.returns-then-marks-eq0
 returns-then-marks-eq0 c =
     let a = c.args in
     c.blanks.ensures
-    ∙ blank-places today a.split a.n (rowTally a.f) _ c.if-marks-eq0.true
-    (λ u h. ap isBlank (sym (row-estimate a.f u (search rules))))
+    ∙ blank-places today a.split a.n (rowTally a.f.now) _ c.if-marks-eq0.true
+    (λ u h. ap isBlank (sym (row-estimate a.f.now u (search rules))))
 
 pub returns : goal.returns
 unfolding cellsOk

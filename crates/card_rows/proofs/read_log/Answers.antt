@@ -13,5 +13,5 @@ pub returns-then-not-narrow : goal.returns-then-not-narrow
 unfolding logNarrow
 returns-then-not-narrow c =
     rw
-    (too-large (logFormat today) (lawful today sane-today) (numbersOf c.args.f) logHead refl
+    (too-large (logFormat today) (lawful today sane-today) (numbersOf c.args.f.now) logHead refl
     (sym c.narrow.ensures ∙ c.if-not-narrow.true))

@@ -4,12 +4,12 @@ use Rattle.cards.proofs.Steps.{row-unread, row-tested}
 use Rattle.card_rows.proofs.state_for.Goals as goal
 
 pub returns-in_default : goal.returns-in_default
-returns-in_default c = sym (row-unread c.args.r c.args.log _ (sym c.read_log.ensures ∙ c.in_default.is))
+returns-in_default c = sym (row-unread c.args.r.now c.args.log _ (sym c.read_log.ensures ∙ c.in_default.is))
 
 pub returns-then-fits : goal.returns-then-fits
 returns-then-fits c =
-    sym (row-tested c.args.r c.args.log _ (sym c.read_log.ensures ∙ c.in-Read.is) ∙ rw (sym c.fits.ensures ∙ c.if-fits.true))
+    sym (row-tested c.args.r.now c.args.log _ (sym c.read_log.ensures ∙ c.in-Read.is) ∙ rw (sym c.fits.ensures ∙ c.if-fits.true))
 
 pub returns-else-fits : goal.returns-else-fits
 returns-else-fits c =
-    sym (row-tested c.args.r c.args.log _ (sym c.read_log.ensures ∙ c.in-Read.is) ∙ rw (sym c.fits.ensures ∙ c.if-fits.false))
+    sym (row-tested c.args.r.now c.args.log _ (sym c.read_log.ensures ∙ c.in-Read.is) ∙ rw (sym c.fits.ensures ∙ c.if-fits.false))

@@ -11,11 +11,11 @@ returns-then-sender-eq-MAX_UNITS t c = rw c.if-sender-eq-MAX_UNITS.true
 pub returns-then-is_marked-leads : goal.returns-then-is_marked-leads
 returns-then-is_marked-leads t c =
     let step = rw (← c.is_marked.ensures, ← c.leads.ensures, c.if-is_marked-leads.true) at
-    (first-step (leads c.args.need (gathered c.args.t)) c.args.t c.args.sender (omega arith)) in
+    (first-step (leads c.args.need (gathered c.args.t.now)) c.args.t.now c.args.sender (omega arith)) in
     sym step
 
 pub returns : goal.returns
 returns t c =
     let step = rw (← c.is_marked.ensures, ← c.leads.ensures, c.if-is_marked-leads.false) at
-    (first-step (leads c.args.need (gathered c.args.t)) c.args.t c.args.sender (omega arith)) in
+    (first-step (leads c.args.need (gathered c.args.t.now)) c.args.t.now c.args.sender (omega arith)) in
     c.leader_from.ensures ∙ sym step

@@ -13,12 +13,12 @@ loop-s-init c = (omega arith, refl)
 pub returns-else-agrees : goal.returns-else-agrees
 returns-else-agrees c =
     let step = rw (← c.is_marked.ensures, c.if-is_marked.true, ← c.agrees.ensures, c.if-agrees.false) at
-    (after-step c.loop-s.all c.args.self c.loop-s.s c.loop-s-test.true) in
+    (after-step c.loop-s.all c.args.self.now c.loop-s.s c.loop-s-test.true) in
     sym step ∙ c.loop-s.invariant.1
 
 pub loop-s-preserved : goal.loop-s-preserved
 loop-s-preserved c =
-    let step = rw (← c.is_marked.ensures) at (after-step c.loop-s.all c.args.self c.loop-s.s c.loop-s-test.true) in
+    let step = rw (← c.is_marked.ensures) at (after-step c.loop-s.all c.args.self.now c.loop-s.s c.loop-s-test.true) in
     elim c.if-is_marked.branch [
       | then-is_marked+then-agrees w ↦
           let turn = rw (w.if-is_marked.true, ← w.agrees.ensures, w.if-agrees.true) at step in (omega arith, rw w.all-is (sym turn ∙ c.loop-s.invariant.1))

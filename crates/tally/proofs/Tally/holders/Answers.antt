@@ -12,7 +12,7 @@ loop-s-init c = (omega arith, omega arith, omega arith)
 
 pub loop-s-preserved : goal.loop-s-preserved
 loop-s-preserved c =
-    let step = rw (← c.is_marked.ensures, ← c.has_value.ensures) at (passing-step (hasValue c.args.v) c.args.self c.loop-s.s c.loop-s-test.true) in
+    let step = rw (← c.is_marked.ensures, ← c.has_value.ensures) at (passing-step (hasValue c.args.v) c.args.self.now c.loop-s.s c.loop-s-test.true) in
     elim c.if-is_marked-has_value.branch [
       | then-is_marked-has_value w ↦ let turn = rw w.if-is_marked-has_value.true at step in (omega arith, omega arith, omega arith)
       | else-is_marked-has_value w ↦ let turn = rw w.if-is_marked-has_value.false at step in (omega arith, omega arith, omega arith)

@@ -12,13 +12,13 @@ loop-s-init c = (omega arith, refl)
 pub returns-then-is_marked-any_mileage : goal.returns-then-is_marked-any_mileage
 returns-then-is_marked-any_mileage c =
     let step = rw (← c.is_marked.ensures, ← c.any_mileage.ensures, c.if-is_marked-any_mileage.true) at
-    (first-step anyMileage c.args.self c.loop-s.s c.loop-s-test.true) in
+    (first-step anyMileage c.args.self.now c.loop-s.s c.loop-s-test.true) in
     sym step ∙ c.loop-s.invariant.1
 
 pub loop-s-preserved : goal.loop-s-preserved
 loop-s-preserved c =
     let step = rw (← c.is_marked.ensures, ← c.any_mileage.ensures, c.if-is_marked-any_mileage.false) at
-    (first-step anyMileage c.args.self c.loop-s.s c.loop-s-test.true) in
+    (first-step anyMileage c.args.self.now c.loop-s.s c.loop-s-test.true) in
     (omega arith, sym step ∙ c.loop-s.invariant.1)
 
 pub returns : goal.returns

@@ -4,7 +4,7 @@ use Rattle.std.proofs.lemmas.Grind.{common_steps}
 use Rattle.consensus.specs.Conditions.{firstOf}
 use Rattle.consensus.specs.InnerMethods.{deliverRead}
 use Rattle.consensus.specs.Methods.{deliver, deliverConditions, unless}
-use Rattle.consensus.proofs.Unit.deliver.Goals as goal
+use Rattle.consensus.proofs.Unit.take.Goals as goal
 
 pub returns-then-not-well_formed : goal.returns-then-not-well_formed
 unfolding deliver deliverConditions unless firstOf deliverRead
