@@ -114,3 +114,12 @@ spread-whole (suc k) (v ∷ vs) e = rw (shift 0 k, spread-whole k vs (omega arit
     shift : (o k : ℕ) → spread (suc o) k (v ∷ vs) ≡ spread o k vs
     shift o zero = refl
     shift o (suc k) = rw (shift (suc o) k)
+
+-- blank has a number of its own
+pub blank-number : (x : ℕ) → eqb x blankCode ≡ isBlank (estimateOf x)
+blank-number x = go (eqb x blankCode) (eqb x splitCode)
+  where
+    go : (a b : Bool) → a ≡ isBlank (cond a Blank (cond b Split (Mileage x)))
+    go true b = refl
+    go false true = refl
+    go false false = refl
