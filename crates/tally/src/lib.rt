@@ -213,7 +213,7 @@ impl Tally {
         Estimate::Blank
     }
 
-    // The mileage that all the marked hold; split where they differ. One loop, with no call that takes the tally: it is never copied.
+    // The mileage that all the marked hold; split where they differ.
     pub fn common(&self) -> Estimate
         ensures { result ≡ common (gathered self.now) }
     {
