@@ -115,6 +115,7 @@ impl Unit {
 
     // A delivery of a message found well formed and for this unit, which is up: 7 is the one refusal left.
     #[tactic(auto, unfolding(crate::specs::InnerMethods::deliverRead, crate::specs::Methods::unless, crate::specs::Conditions::firstOf))]
+    #[inline(always)]
     fn deliver_read(&mut self, m: Message) -> Taken
         requires { messageOk today m ≡ true }
         ensures { deliverRead today self.old m
@@ -130,6 +131,7 @@ impl Unit {
     }
 
     // A delivery, in place.
+    #[inline(always)]
     fn take(&mut self, m: Message) -> Taken
         ensures { deliver today self.old m
             ≡ record { refusal = result.refusal; unit = self.new; message = result.said.message; decision = result.said.decision } }
