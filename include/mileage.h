@@ -3,8 +3,8 @@
  * a card of up to 64 entries (the same four, on one of its rows), and reading and writing logs and messages. Link
  * libmileage.a, which is for x86-64 (System V calling convention, with SSE2 registers and the 128 bytes below the stack
  * pointer, which interrupt handlers must leave alone); it keeps nothing of its own between calls, allocates nothing, and
- * uses from outside at most memcpy, memset and memmove. Of the stack mileage_deliver uses at most 2,304 bytes in engine B
- * and 8,960 in engine R, mileage_card_deliver 3,200 and 9,728, the other calls of a card 2,560, every other call 512
+ * uses from outside at most memcpy, memset and memmove. Of the stack mileage_deliver uses at most 1,536 bytes in engine B
+ * and 1,792 in engine R, mileage_card_deliver 2,304 and 2,560, the other calls of a card 2,048, every other call 512
  * (measured, not proved).
  *
  * A buffer is passed as a pointer and then its length. The length counts elements: bytes of a log, an image or a message,
