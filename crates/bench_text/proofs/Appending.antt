@@ -6,7 +6,7 @@ use native.Mathlib.Nat.{add-zero}
 use native.Mathlib.Omega.{arith}
 use native.Mathlib.Numerals.{add-one}
 use lib.ListN.{length, set, take, get_or, length-append}
-use lib.Seq.{sets, take-suc, take_all}
+use lib.Seq.{sets, take-suc}
 use Rattle.bench_text.specs.InnerText.{Puts}
 
 pub sets-append : (l : List ℕ) (i : ℕ) (a b : List ℕ) → sets (sets l i a) (i + length a) b ≡ sets l i (a ++ b)

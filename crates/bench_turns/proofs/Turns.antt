@@ -6,7 +6,7 @@ use mathlib.Core.List.{[], ◌∷◌}
 use native.Mathlib.Omega.{arith}
 use lib.Dec.{ltb}
 use lib.ListN.{get_or, set}
-use borrow.Author.Tests.{eq-eqb, ne_eqb, ltb-true, ltb-false, le-leb, lt-leb}
+use borrow.Author.Tests.{eq-eqb, ne_eqb, ltb-false, le-leb, lt-leb}
 use Rattle.tally.proofs.Never.{never}
 use Rattle.tally.specs.Limits.{Limits, places}
 use Rattle.tally.specs.declared.Refusal.{Refusal}

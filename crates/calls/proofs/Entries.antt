@@ -1,12 +1,11 @@
 -- What the code of the four calls meets on its way: what is refused, and what is stored. Assumes nothing.
 use Prim.Native.Nat.{ℕ, ◌<◌, ◌^◌}
 use mathlib.Core.Path.{◌≡◌, refl, sym, ◌∙◌}
-use mathlib.Core.Bool.{Bool, true, false, not, ◌&&◌, ◌||◌}
+use mathlib.Core.Bool.{Bool, true, false, not, ◌||◌}
 use mathlib.Core.List.{List}
 use native.Mathlib.Omega.{arith}
-use lib.Dec.{ltb}
 use lib.ListN.{length}
-use borrow.Author.Tests.{eqb-true, lt-ltb, ltb-true, not-false}
+use borrow.Author.Tests.{eqb-true, lt-ltb, not-false}
 use Rattle.contents.specs.Messages.{messageOk, emptyMessage}
 use Rattle.tally.specs.Limits.{Limits, Sane, logSize, imageSize, messageSize}
 use Rattle.tally.specs.Refusal.{numberOf}
@@ -18,7 +17,6 @@ use Rattle.contents.specs.declared.Image.{Image}
 use Rattle.contents.specs.declared.Log.{Log}
 use Rattle.contents.specs.declared.Message.{Message}
 use Rattle.contents.proofs.Facts.{numbers-facts}
-use Rattle.contents.proofs.Tests.{both-true}
 use Rattle.formats.specs.Codes.{engineOf}
 use Rattle.formats.specs.Formats.{reading}
 use Rattle.formats.specs.Images.{imageFormat, imageBytes}

@@ -1,16 +1,14 @@
 -- The calls over any lawful format: what writing contents answers, and both round trips between fields and bytes. Assumes nothing.
-use Prim.Native.Nat.{ℕ, ◌+◌, ◌≤◌}
+use Prim.Native.Nat.{ℕ}
 use mathlib.Core.Path.{◌≡◌, refl, sym, ap}
 use mathlib.Core.Bool.{Bool, true, false, cond, ◌&&◌}
-use mathlib.Core.List.{List, append-nil}
-use mathlib.Core.Option.{some}
+use mathlib.Core.List.{List}
 use native.Mathlib.Omega.{arith}
 use lib.Dec.{eqb}
-use lib.ListN.{length, drop_of_length-le}
-use lib.Seq.{sets, sets-eq}
-use borrow.Author.Tests.{eq-eqb, ne_eqb, eqb-true, eqb-false}
+use lib.ListN.{length}
+use borrow.Author.Tests.{eq-eqb, eqb-true, eqb-false}
 use Rattle.contents.proofs.Tests.{both-true}
-use Rattle.formats.specs.Formats.{ReadAnswer, reading, wrote, Format, withZero, checked, fromNumbers, readBytes, toBytes, writeBytes}
+use Rattle.formats.specs.Formats.{ReadAnswer, reading, wrote, Format, withZero, fromNumbers, readBytes, toBytes}
 use Rattle.formats.specs.Numbers.{Bytes, pack}
 use Rattle.formats.proofs.Packed.{Fit}
 use Rattle.tally.specs.Refusal.{numberOf}
@@ -24,7 +22,6 @@ use Rattle.tally.specs.Limits.{Limits, logFields, logSize, messageFields, messag
 use Rattle.calls.specs.Fields.{putNumbers, putChecked, readCall, writeCall, FieldTrip, readLogCall, writeLogCall, readMessageCall, writeMessageCall}
 
 module _ {A : Type 0} (f : Format A) (law : LawfulFormat f (λ a. Unit)) where
-
   pub read-refused : (bs fs : List ℕ) (k : ℕ) → length fs ≡ f.fields → readBytes f bs ≡ reading k f.nothing → readCall f bs fs ≡ wrote k fs
   read-refused bs fs k len e = rw (eq-eqb (length fs) f.fields len, e, refused-number f (λ a. Unit) law bs k e)
 

@@ -1,5 +1,5 @@
 -- Numbers too large for their bytes are refused, and the others fit the code's types. Assumes nothing.
-use Prim.Native.Nat.{ℕ, zero, suc, ◌^◌, ◌≤◌, ◌<◌}
+use Prim.Native.Nat.{ℕ, zero, suc, ◌^◌, ◌≤◌}
 use mathlib.Core.Path.{◌≡◌, refl, sym, ap, ◌∙◌}
 use mathlib.Core.Bool.{Bool, true, false, cond, ◌&&◌, and-true, false≢true}
 use mathlib.Core.List.{List, [], ◌∷◌, ◌++◌}
@@ -8,15 +8,11 @@ use native.Mathlib.Omega.{arith}
 use lib.Dec.{ltb}
 use lib.ListN.{length, get_or, take, drop, length-append}
 use lib.Seq.{get_or_at, append_snoc}
-use borrow.Author.Tests.{lt-ltb, ltb-true}
-use Rattle.contents.proofs.Tests as tests
+use borrow.Author.Tests.{lt-ltb}
 use Rattle.formats.specs.Formats.{reading, Format, withZero, without, checked, fromNumbers}
-use Rattle.tally.specs.Limits.{Limits}
-use Rattle.formats.specs.Logs.{logFormat}
-use Rattle.formats.specs.Messages.{messageFormat}
 use Rattle.formats.proofs.RoundTrips.{LawfulFormat, without-zero}
 use Rattle.formats.proofs.Packed.{Fit, fit-append}
-use Rattle.calls.specs.InnerFields.{narrow, headWidths, logHead, logNarrow, messageHead, messageNarrow}
+use Rattle.calls.specs.InnerFields.{narrow, headWidths}
 
 -- numbers that fit their widths are narrow
 fit-narrow : (ok : Bool) (ws vs p : List ℕ) (o k : ℕ) → length p ≡ o → Fit ws vs → narrow ok o (take k ws) (p ++ vs) ≡ ok

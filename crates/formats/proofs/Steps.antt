@@ -19,7 +19,6 @@ use Rattle.formats.specs.declared.EngineRead.TheVariants.{Unknown}
 use Rattle.formats.proofs.Packed.{packInto-eq}
 
 module _ {A : Type 0} (f : Format A) (bs : List ℕ) where
-
   pub read-numbers-in : length bs ≡ f.size → zeroByte f bs ≡ 0 → readBytes f bs ≡ fromNumbers f (numbersIn f bs)
   read-numbers-in e z = rw (eq-eqb (length bs) f.size e, eq-eqb (zeroByte f bs) 0 z)
 
