@@ -187,11 +187,10 @@ typedef char mileage_row_has_200_bytes[sizeof(mileage_row) == 200 ? 1 : -1];
  *   its fields are the same eight numbers in the same order, and mileage_read_log gives them back.
  * - After a refusal nothing is to be written or sent, and the card goes on as it is. 12 for a message: its entry has no
  *   row here, and it is dropped, which is as if it was lost, unless the unit keeps that entry by the calls above. 4, 5 or
- *   7: it is dropped too. 6: nothing is proposed. 2 or
- *   3: the row is not started, or was damaged. If not started, the message is dropped, or the row is started first. If
- *   damaged, copy its log from permanent memory to the row and go on with mileage_card_key_on; if that gives 2 or 3, the
- *   log is lost, and the unit takes no further part in that entry. 1, 12 for a row number, and 2 for settings out of
- *   range are faults of the program.
+ *   7: it is dropped too. 6: nothing is proposed. 2 or 3: the row is not started, or was damaged. If not started, the
+ *   message is dropped, or the row is started first. If damaged, copy its log from permanent memory to the row and go on
+ *   with mileage_card_key_on; if that gives 2 or 3, the log is lost, and the unit takes no further part in that entry. 1,
+ *   12 for a row number, and 2 for settings out of range are faults of the program.
  * - All units keep an entry on cards, or all keep it by the calls above: agreement is proved of each of the two. By the
  *   calls above are the entries past the longest card of the bike. A unit whose card is shorter takes no part in those
  *   between.
@@ -205,7 +204,8 @@ uint32_t mileage_card_start(uint32_t engine, uint32_t n, uint32_t unit, mileage_
 
 /*
  * Makes the image of a row's log, without marks. Reads the row's log; writes the row, its log as it was, and what image,
- * marks and estimates held has no part in it. Refusals, in this order: 1, 12, 2, 3 (the log is of other settings or another entry).
+ * marks and estimates held has no part in it. Refusals, in this order: 1, 12, 2, 3 (the log is of other settings or
+ * another entry).
  */
 uint32_t mileage_card_key_on(uint32_t engine, uint32_t n, uint32_t unit, mileage_row *rows, size_t count, uint32_t row);
 

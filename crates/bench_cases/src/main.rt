@@ -16,7 +16,7 @@ fn play_named<R: Files + Print>(rt: &R, name: &str) -> io::Result<()> {
     bench_stream::play(&mut script, &mut io::writer(rt), &mut out)
 }
 
-// The script of argument k; false where there is none.
+// The script of argument k; false where there is none that can be read.
 fn play_argument<R: Env + Files + Print>(rt: &R, k: usize) -> io::Result<bool> {
     let mut name = [0u8; NAME_SIZE];
     let Ok(n) = rt.arg(k, &mut name) else {

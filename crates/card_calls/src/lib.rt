@@ -1,4 +1,4 @@
-// A call on a card: which row, its step by value, and the one function that copies a row out and stores it back.
+// A call on a card: which row, the step of that row, and the one function that copies a row out and stores it back.
 #![tactic(auto)]
 
 pub mod buffers;

@@ -244,7 +244,7 @@ pub fn unmarked(l: Log) -> CardRow
     }
 }
 
-// The row of a unit, from the unit's parts: as a whole it would be copied once more.
+// The row of a unit, from the unit's parts.
 pub fn row_of(
     settings: Settings,
     logged: State,

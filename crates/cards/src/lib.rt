@@ -72,7 +72,7 @@ pub struct Told {
     pub decision: Estimate,
 }
 
-// What a row answers: itself after the step, and what is told.
+// What a row answers: itself after the step, and what is told. Contracts alone speak of it.
 #[derive(Clone, Copy)]
 pub struct RowAnswer {
     pub row: CardRow,

@@ -1,4 +1,4 @@
-// The methods of a unit: what is refused first, and else the step. Each hands back the unit after it.
+// The methods of a unit: what is refused first, and else the step. The public ones hand back the unit after it.
 ghost use Rattle.std.specs.Prelude.{◌≡◌, true, ◌<◌};
 ghost use Rattle.tally.specs.Limits.{today, senders};
 ghost use Rattle.tally.specs.declared.Estimate.TheVariants.{Blank};

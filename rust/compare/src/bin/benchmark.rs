@@ -114,7 +114,7 @@ fn bench_table() -> Result<(), String> {
     std::env::set_var(PLAYS, "1");
     if !program.exists() {
         return Err(format!(
-            "no program {}: run `rt check mileage_bench` first",
+            "no program {}: run `make all` first",
             program.display()
         ));
     }

@@ -73,7 +73,7 @@ fn part(
 fn play_scripts(program: &Path, hundreds: u64, random: &mut Random) -> Result<String, String> {
     if !program.exists() {
         return Err(format!(
-            "FAILED: no program {}: run `rt check mileage_bench` in the repository's root first",
+            "FAILED: no program {}: run `make all` in the repository's root first",
             program.display()
         ));
     }
