@@ -119,7 +119,7 @@ fn examples<P: Print>(rt: &P) -> io::Result<()> {
     let short = [70u8, 66, 3, 0, 255, 0, 0, 7, 0, 0, 0, 0, 0, 5, 0, 0, 0];
     show::start(rt, "2: n = 2", B, 2, 0, 7, &mut log, &mut image)?;
     show::start(rt, "unit 2 of 3", B, 3, 2, 7, &mut log, &mut image)?;
-    show::deliver_short(
+    show::deliver(
         rt,
         "1: message of 17 bytes",
         &mut log,

@@ -9,9 +9,6 @@ const CHECKS: usize = limits::LOG_SIZE;
 
 const SECONDS: usize = CHECKS + 2 + 4 * limits::SENDERS;
 
-// A message that lacks a byte.
-pub(crate) const SHORT: usize = limits::MESSAGE_SIZE - 1;
-
 // The bytes from one place to another, in hexadecimal on a line of their own.
 fn line<P: Print>(rt: &P, label: &str, bytes: &[u8], from: usize, to: usize) -> io::Result<()>
     requires { to ≤ length bytes.now }
@@ -105,25 +102,11 @@ pub(crate) fn deliver<P: Print>(
     name: &str,
     log: &mut [u8; limits::LOG_SIZE],
     image: &mut [u8; limits::IMAGE_SIZE],
-    message: &[u8; limits::MESSAGE_SIZE],
+    message: &[u8],
     out: &mut [u8; limits::MESSAGE_SIZE],
 ) -> io::Result<()> {
     let mut decision: u32 = 0;
     let told = unit_calls::deliver(log, image, message, out, &mut decision);
     delivered(rt, name, told, decision, log, image, out)?;
-    line(rt, "  message  ", message, 0, limits::MESSAGE_SIZE)
-}
-
-pub(crate) fn deliver_short<P: Print>(
-    rt: &P,
-    name: &str,
-    log: &mut [u8; limits::LOG_SIZE],
-    image: &mut [u8; limits::IMAGE_SIZE],
-    message: &[u8; SHORT],
-    out: &mut [u8; limits::MESSAGE_SIZE],
-) -> io::Result<()> {
-    let mut decision: u32 = 0;
-    let told = unit_calls::deliver(log, image, message, out, &mut decision);
-    delivered(rt, name, told, decision, log, image, out)?;
-    line(rt, "  message  ", message, 0, SHORT)
+    line(rt, "  message  ", message, 0, message.len())
 }
