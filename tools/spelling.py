@@ -20,14 +20,15 @@ COMMENT = re.compile(r"(?:(?<=[\s(){}.;,@\"«»])|^)--[^\n]*", re.M)
 CAMEL = re.compile(r"[a-z]\w*?[a-z0-9][A-Z]\w*'*")
 DASHED = re.compile(r"[a-z]['\w]*(-['\w]+)+")
 USE = re.compile(r"\buse ([^\s;{]+)\.\{([^}]*)\}")
+BELOW = re.compile(r"([A-Z][^\s(){}.;,@\"«»]*)\.([^\s(){}.;,@\"«»]+)")
 SPAN = re.compile(r"`[^`\n]+`")
 OF_FUNCTION = re.compile(r"/(Answers|Invariants|Proof)\.antt$")
 MADE = ("invariant-", "decreases-")
 
-# `first_of` is a word of the tactics.
-OTHERWISE = {"firstOf": "first_refusal"}
+# `first_of` is a word of the tactics; `all_hold` is of estimates, and another thing than that all worked cases hold.
+OTHERWISE = {"firstOf": "first_refusal", "all-hold": "all_cases_hold"}
 # Laws that the kit's script had turned, for a library has their spelling; the definition beside each is still to be turned.
-TURNED = {"all_hold": "allHold", "in_image": "inImage", "is_down": "isDown", "is_up": "isUp", "kind_ok": "kindOk", "numbers_of": "numbersOf"}
+TURNED = {"in_image": "inImage", "is_down": "isDown", "is_up": "isUp", "kind_ok": "kindOk", "numbers_of": "numbersOf"}
 
 
 def snake(word):
@@ -64,18 +65,21 @@ def of_library(texts, own):
             steps = m[1].split(".")
             if steps[0] != "Rattle" or steps[1] not in own or steps[-1] in ("Goals", "Given"):
                 found.update(item.split(" as ")[0].strip() for item in m[2].split(","))
-    return found
+    # what stands below an imported name, as in Memᴰ.not-nil
+    below = {m[2] for _, _, text in texts for m in BELOW.finditer(text) if m[1] in found}
+    return found | below
 
 
 def table_of(texts, own):
     library = of_library(texts, own)
-    found, plain = set(), set()
+    found, plain, words = set(), set(), set()
     for name, _, text in texts:
         if name.endswith(".antt"):
             code = COMMENT.sub(" ", text)
             of_function = bool(OF_FUNCTION.search(name))
             for m in WORD.finditer(code):
                 word = m[0]
+                words.add(word)
                 if word in library or word in OTHERWISE:
                     continue
                 if CAMEL.fullmatch(word) or (DASHED.fullmatch(word) and not of_function):
@@ -85,7 +89,9 @@ def table_of(texts, own):
     camel = {snake(word) for word in found if "-" not in word}
     table = {word: snake(word) + ("_lem" if "-" in word and snake(word) in camel else "") for word in found}
     table.update({law: law + "_lem" for law, definition in TURNED.items() if definition in found and law in plain})
-    table.update(OTHERWISE)
+    for old, new in OTHERWISE.items():
+        # as it stands, or as the kit's script left it: then nothing has the old spelling
+        table[old if old in words else snake(old)] = new
     return table
 
 
@@ -100,15 +106,9 @@ def local_names(code):
 def antt(text, table, of_function):
     local = {w: snake(w) for w in local_names(COMMENT.sub(" ", text))} if of_function else {}
 
-    def turn(m, code):
-        word = m[0]
-        if of_function and "-" in word and m.start() and code[m.start() - 1] == ".":
-            return word
-        return local.get(word) or table.get(word, word)
-
     def part(code, comment):
         if not comment:
-            return WORD.sub(lambda m: turn(m, code), code)
+            return WORD.sub(lambda m: local.get(m[0]) or table.get(m[0], m[0]), code)
         return re.sub(r"[A-Za-z][\w']*(?:-[\w']+)*", lambda m: table.get(m[0], m[0]) if "well-formed" != m[0] else m[0], code)
 
     return "".join(part(p, stays) for p, stays in pieces(text, COMMENT))

@@ -10,49 +10,49 @@ use lib.Bits.{bit_or}
 use lib.Count.{ones}
 use Rattle.tally.specs.Gathered.{common}
 use Rattle.tally.specs.Limits.{Limits}
-use Rattle.tally.specs.Tally.{mark, noMarks, gathered}
+use Rattle.tally.specs.Tally.{mark, no_marks, gathered}
 use Rattle.tally.specs.declared.Engine.{Engine}
 use Rattle.tally.specs.declared.Engine.TheVariants.{B, R}
 use Rattle.tally.specs.declared.Estimate.{Estimate}
 use Rattle.tally.specs.declared.Estimate.TheVariants.{Blank, Split, Mileage}
 use Rattle.tally.specs.declared.Refusal.{Refusal}
 use Rattle.tally.specs.declared.Tally.{Tally}
-use Rattle.tally.proofs.Marks.{mark-adds}
+use Rattle.tally.proofs.Marks.{mark_adds}
 use Rattle.tally.proofs.Never.{never}
-use Rattle.tally.proofs.Quorums.{quorum-half}
-use Rattle.contents.specs.Estimates.{isBlank}
-use Rattle.contents.specs.Images.{sameSettings, fits}
-use Rattle.contents.specs.Messages.{emptyMessage}
+use Rattle.tally.proofs.Quorums.{quorum_half}
+use Rattle.contents.specs.Estimates.{is_blank}
+use Rattle.contents.specs.Images.{same_settings, fits}
+use Rattle.contents.specs.Messages.{empty_message}
 use Rattle.contents.specs.declared.Kind.{Kind}
 use Rattle.contents.specs.declared.Kind.TheVariants.{Empty, Check, Second}
 use Rattle.contents.specs.declared.Message.{Message}
 use Rattle.contents.specs.declared.State.{State}
-use Rattle.contents.proofs.Facts.{message-facts, image-facts}
-use Rattle.contents.proofs.KindRules.{check-mileage}
-use Rattle.contents.proofs.Same.{Fits, state-fits}
-use Rattle.contents.proofs.Tests.{both-true}
-use Rattle.consensus.specs.Methods.{unless, proposeConditions, propose, deliverConditions, deliver, keyOff, keyOn}
+use Rattle.contents.proofs.Facts.{message_facts, image_facts}
+use Rattle.contents.proofs.KindRules.{check_mileage}
+use Rattle.contents.proofs.Same.{Fits, state_fits_lem}
+use Rattle.contents.proofs.Tests.{both_true}
+use Rattle.consensus.specs.Methods.{unless, propose_conditions, propose, deliver_conditions, deliver, key_off, key_on}
 use Rattle.consensus.specs.Conditions.{Condition}
-use Rattle.consensus.specs.Step.{quiet, says, withFirst, withSecond, logWrite, atRound, orIfBlank, sendFirst, proposed, voteKind, voteProposal}
-use Rattle.consensus.specs.Step.{takeFirst, isFull, takeSecond, checksWith, close, secondsWith, onKind, skip, received, recovered}
-use Rattle.consensus.specs.Units.{WellFormed, unitImage, atLog, downUnit}
+use Rattle.consensus.specs.Step.{quiet, says, with_first, with_second, log_write, at_round, or_if_blank, send_first, proposed, vote_kind, vote_proposal}
+use Rattle.consensus.specs.Step.{take_first, is_full, take_second, checks_with, close, seconds_with, on_kind, skip, received, recovered}
+use Rattle.consensus.specs.Units.{WellFormed, unit_image, at_log, down_unit}
 use Rattle.consensus.specs.declared.Answer.{Answer}
 use Rattle.consensus.specs.declared.Power.{Power}
 use Rattle.consensus.specs.declared.Power.TheVariants.{Down, Up}
 use Rattle.consensus.specs.declared.Unit as U
-use Rattle.consensus.proofs.Branches.{by-kind, by-check, by-second, by-round, by-unless}
-use Rattle.consensus.proofs.Full.{Proper, proper-mark, proper-none, proper-unit}
-use Rattle.agreement.specs.Worlds.{Setup, settingsOf}
-use Rattle.agreement.proofs.Closing.{tallied-none, tallied-mark, kind-ok, filled, common-quorum, next-sure, chosen}
-use Rattle.agreement.proofs.Votes.{Of, of, isVote, Unique, quorum, Quorum, Sure, sure-of, Chosen}
-use Rattle.agreement.proofs.Invariant.{Backed, FairMessage, Member, half, slot, Stands, VotesStand, Tallied, Fair, quorum-sure}
+use Rattle.consensus.proofs.Branches.{by_kind, by_check, by_second, by_round, by_unless}
+use Rattle.consensus.proofs.Full.{Proper, proper_mark, proper_none, proper_unit}
+use Rattle.agreement.specs.Worlds.{Setup, settings_of}
+use Rattle.agreement.proofs.Closing.{tallied_none, tallied_mark, kind_ok_lem, filled, common_quorum, next_sure, chosen}
+use Rattle.agreement.proofs.Votes.{Of, of, is_vote, Unique, quorum, Quorum, Sure, sure_of, Chosen}
+use Rattle.agreement.proofs.Invariant.{Backed, FairMessage, Member, half, slot, Stands, VotesStand, Tallied, Fair, quorum_sure}
 
 -- of an answer of unit u to a message of round r: what its unit, message and decision are
 pub record Good (c : Setup) (X : Message → Type 0) (A : ℕ → Type 0) (u r : ℕ) (a : Answer) : Type 0 where
   pub fair : Fair c X A a.unit
   pub kept : VotesStand c X u a.unit.logged
   pub message : (a.message.kind ≡ Empty → ⊥)
-      → Backed c X A a.message × (isVote a.message.kind ≡ true → Stands c a.unit.logged a.message)
+      → Backed c X A a.message × (is_vote a.message.kind ≡ true → Stands c a.unit.logged a.message)
   pub decision : Of (Chosen c X A r) a.decision
 
 -- ---- well-formed units
@@ -67,46 +67,46 @@ record Ready (c : Setup) (x : U.Unit) : Type 0 where
 -- a unit with the settings of unit u
 abbrev seated : Setup → ℕ → U.Unit → U.Unit
 seated c u x =
-    record { power = x.power; settings = settingsOf c u; logged = x.logged; current = x.current; checks = x.checks; seconds = x.seconds }
+    record { power = x.power; settings = settings_of c u; logged = x.logged; current = x.current; checks = x.checks; seconds = x.seconds }
 
 ready : (l : Limits) (c : Setup) (u : ℕ) (x : U.Unit) → WellFormed l (seated c u x) → Ready c (seated c u x)
 unfolding fits
 ready l c u x w =
-    let p = proper-unit l (seated c u x) w in
+    let p = proper_unit l (seated c u x) w in
     record {
-      fits = state-fits x.current x.logged (both-true (sameSettings (settingsOf c u) (settingsOf c u)) _ w.fit).1;
+      fits = state_fits_lem x.current x.logged (both_true (same_settings (settings_of c u) (settings_of c u)) _ w.fit).1;
       checks = p.0;
       seconds = p.1;
-      few = (image-facts l (unitImage (seated c u x)) w.image).seconds.few;
+      few = (image_facts l (unit_image (seated c u x)) w.image).seconds.few;
     }
 
 -- also after it took a round above its own
-ready-above : (c : Setup) (x : U.Unit) (r : ℕ) (p : Estimate) → Ready c x → x.current.round < r → Ready c (atRound x r p)
-unfolding atRound noMarks ones
-ready-above c x r p i h =
-    record { fits = inl (go i.fits, (refl, refl)); checks = none; seconds = none; few = omega (arith, quorum-half c.engine c.n) }
+ready_above : (c : Setup) (x : U.Unit) (r : ℕ) (p : Estimate) → Ready c x → x.current.round < r → Ready c (at_round x r p)
+unfolding at_round no_marks ones
+ready_above c x r p i h =
+    record { fits = inl (go i.fits, (refl, refl)); checks = none; seconds = none; few = omega (arith, quorum_half c.engine c.n) }
   where
     go : Fits x.current x.logged → x.logged.round < r
     go (inl q) = omega (arith, q.0)
     go (inr q) = omega (arith, q.0)
 
-    none : Proper c.n noMarks
-    none = proper-none c.n i.checks.low
+    none : Proper c.n no_marks
+    none = proper_none c.n i.checks.low
 
 module _ (c : Setup) (X : Message → Type 0) (A : ℕ → Type 0) where
   -- without marks
-  pub fair-none : (x : U.Unit) → x.checks ≡ noMarks → x.seconds ≡ noMarks → Sure c X A x.logged.round x.logged.proposal
+  pub fair_none : (x : U.Unit) → x.checks ≡ no_marks → x.seconds ≡ no_marks → Sure c X A x.logged.round x.logged.proposal
       → Sure c X A x.current.round x.current.proposal → Fair c X A x
-  fair-none x p q logged current = record { logged = logged; current = current; checks = rw p (tallied-none X _ _); seconds = rw q (tallied-none X _ _) }
+  fair_none x p q logged current = record { logged = logged; current = current; checks = rw p (tallied_none X _ _); seconds = rw q (tallied_none X _ _) }
 
   -- an answer without message and decision
-  good-silent : (k : Refusal) (u r : ℕ) (x : U.Unit) → Fair c X A x → VotesStand c X u x.logged
-      → Good c X A u r (record { refusal = k; unit = x; message = emptyMessage; decision = Blank })
-  good-silent k u r x f kept = record { fair = f; kept = kept; message = λ h. absurd (h refl); decision = tt }
+  good_silent : (k : Refusal) (u r : ℕ) (x : U.Unit) → Fair c X A x → VotesStand c X u x.logged
+      → Good c X A u r (record { refusal = k; unit = x; message = empty_message; decision = Blank })
+  good_silent k u r x f kept = record { fair = f; kept = kept; message = λ h. absurd (h refl); decision = tt }
 
-  good-skip : (u r to : ℕ) (x : U.Unit) → Fair c X A x → VotesStand c X u x.logged → Good c X A u r (skip x to)
+  good_skip : (u r to : ℕ) (x : U.Unit) → Fair c X A x → VotesStand c X u x.logged → Good c X A u r (skip x to)
   unfolding skip says
-  good-skip u r to x f kept =
+  good_skip u r to x f kept =
       record {
         fair = f;
         kept = kept;
@@ -114,55 +114,55 @@ module _ (c : Setup) (X : Message → Type 0) (A : ℕ → Type 0) where
         decision = tt;
       }
 
-  good-proposed : (u r : ℕ) (x : U.Unit) (v : ℕ) → A v → Fair c X A x → VotesStand c X u x.logged → Good c X A u r (proposed x v)
-  unfolding proposed sendFirst says
-  good-proposed u r x v a f kept =
+  good_proposed : (u r : ℕ) (x : U.Unit) (v : ℕ) → A v → Fair c X A x → VotesStand c X u x.logged → Good c X A u r (proposed x v)
+  unfolding proposed send_first says
+  good_proposed u r x v a f kept =
       let s = given x.current.proposal f.current in
       record {
         fair = record { logged = f.logged; current = s; checks = f.checks; seconds = f.seconds };
         kept = kept;
         message = λ h. (
-          record { proposal = s; estimate = sure-of c X A _ (orIfBlank x.current.proposal (Mileage v)) s; checked = λ k. never cc },
+          record { proposal = s; estimate = sure_of c X A _ (or_if_blank x.current.proposal (Mileage v)) s; checked = λ k. never cc },
           λ t. never t,
         );
         decision = tt;
       }
     where
-      given : (p : Estimate) → Sure c X A x.current.round p → Sure c X A x.current.round (orIfBlank p (Mileage v))
+      given : (p : Estimate) → Sure c X A x.current.round p → Sure c X A x.current.round (or_if_blank p (Mileage v))
       given Blank s = (λ r₀ w b n. s.0 r₀ w b refl, a)
       given Split s = s
       given (Mileage w) s = s
 
   -- a call that one of its conditions refuses changes nothing
-  good-unless : (u r : ℕ) (cs : List Condition) (x : U.Unit) (a : Answer) → Fair c X A x → VotesStand c X u x.logged → Good c X A u r a
+  good_unless : (u r : ℕ) (cs : List Condition) (x : U.Unit) (a : Answer) → Fair c X A x → VotesStand c X u x.logged → Good c X A u r a
       → Good c X A u r (unless cs x a)
-  good-unless u r cs x a f kept good = by-unless (Good c X A u r) cs x a good (λ k. good-silent k u r x f kept)
+  good_unless u r cs x a f kept good = by_unless (Good c X A u r) cs x a good (λ k. good_silent k u r x f kept)
 
   module _ (u r : ℕ) (x : U.Unit) (f : Fair c X A x) (kept : VotesStand c X u x.logged) where
-    rest : (p : Power) → Good c X A u r (quiet (atLog p x.settings x.logged))
-    unfolding atLog
-    rest p = good-silent Refusal.None u r _ (fair-none _ refl refl f.logged f.logged) kept
+    rest : (p : Power) → Good c X A u r (quiet (at_log p x.settings x.logged))
+    unfolding at_log
+    rest p = good_silent Refusal.None u r _ (fair_none _ refl refl f.logged f.logged) kept
 
-    pub good-off : Good c X A u r (keyOff x)
-    unfolding keyOff downUnit
-    good-off = good-unless u r _ x _ f kept (rest Down)
+    pub good_off : Good c X A u r (key_off x)
+    unfolding key_off down_unit
+    good_off = good_unless u r _ x _ f kept (rest Down)
 
-    pub good-on : Good c X A u r (keyOn x)
-    unfolding keyOn recovered
-    good-on = good-unless u r _ x _ f kept (rest Up)
+    pub good_on : Good c X A u r (key_on x)
+    unfolding key_on recovered
+    good_on = good_unless u r _ x _ f kept (rest Up)
 
-    pub good-propose : (l : Limits) (v : ℕ) → A v → Good c X A u r (propose l x v)
+    pub good_propose : (l : Limits) (v : ℕ) → A v → Good c X A u r (propose l x v)
     unfolding propose
-    good-propose l v a = good-unless u r (proposeConditions l x v) x (proposed x v) f kept (good-proposed u r x v a f kept)
+    good_propose l v a = good_unless u r (propose_conditions l x v) x (proposed x v) f kept (good_proposed u r x v a f kept)
 
 -- ---- a message delivered
 
 module _ (l : Limits) (c : Setup) (X : Message → Type 0) (A : ℕ → Type 0) (sent : (m : Message) → X m → FairMessage l c X A m) (unique : Unique X) where
   module _ (u : ℕ) (x : U.Unit) (i : Ready c (seated c u x)) (f : Fair c X A (seated c u x)) (kept : VotesStand c X u x.logged) where
     -- a state of the current round that has each estimate which was not blank has what was voted
-    kept-on : (s : State) → s.round ≡ x.current.round → ((b : Bool) → isBlank (half b x.current) ≡ false → half b s ≡ half b x.current)
+    kept_on : (s : State) → s.round ≡ x.current.round → ((b : Bool) → is_blank (half b x.current) ≡ false → half b s ≡ half b x.current)
         → VotesStand c X u s
-    kept-on s same stays m here t by = go i.fits (kept m here t by)
+    kept_on s same stays m here t by = go i.fits (kept m here t by)
       where
         halves : (x.logged.first ≡ x.current.first) × (x.logged.second ≡ x.current.second) → (b : Bool)
             → half b x.logged ≡ half b x.current
@@ -181,16 +181,16 @@ module _ (l : Limits) (c : Setup) (X : Message → Type 0) (A : ℕ → Type 0) 
             inr (i.0 ∙ h.0 ∙ sym same, stays k (rw e (filled l c X A sent m here t)) ∙ e)
 
     module _ (m : Message) (here : X m) (same : m.round ≡ x.current.round) where
-      good-first : isBlank x.current.first ≡ true → Good c X A u x.current.round (takeFirst (seated c u x) m.proposal)
-      unfolding takeFirst logWrite says
-      good-first free =
+      good_first : is_blank x.current.first ≡ true → Good c X A u x.current.round (take_first (seated c u x) m.proposal)
+      unfolding take_first log_write says
+      good_first free =
           record {
             fair = record { logged = f.current; current = f.current; checks = f.checks; seconds = f.seconds };
-            kept = kept-on (withFirst x.current m.proposal) refl stays;
+            kept = kept_on (with_first x.current m.proposal) refl stays;
             message = λ h. (
               record {
                 proposal = proposal c.engine;
-                estimate = sure-of c X A x.current.round m.proposal got;
+                estimate = sure_of c X A x.current.round m.proposal got;
                 checked = λ k g. never (let z : Check ≡ Second = rw g at k in cc);
               },
               λ t. (refl, stands c.engine),
@@ -201,29 +201,29 @@ module _ (l : Limits) (c : Setup) (X : Message → Type 0) (A : ℕ → Type 0) 
           got : Sure c X A x.current.round m.proposal
           got = subst (λ r. Sure c X A r m.proposal) same (sent m here).backed.proposal
 
-          stays : (b : Bool) → isBlank (half b x.current) ≡ false → half b (withFirst x.current m.proposal) ≡ half b x.current
+          stays : (b : Bool) → is_blank (half b x.current) ≡ false → half b (with_first x.current m.proposal) ≡ half b x.current
           stays true n = refl
           stays false n = never (sym n ∙ free)
 
-          proposal : (g : Engine) → Sure c X A x.current.round (voteProposal g m.proposal x.current.proposal)
+          proposal : (g : Engine) → Sure c X A x.current.round (vote_proposal g m.proposal x.current.proposal)
           proposal B = got
           proposal R = f.current
 
-          stands : (g : Engine) → half (slot g (voteKind g)) (withFirst x.current m.proposal) ≡ m.proposal
+          stands : (g : Engine) → half (slot g (vote_kind g)) (with_first x.current m.proposal) ≡ m.proposal
           stands B = refl
           stands R = refl
 
-      good-check : c.engine ≡ B → isBlank x.current.second ≡ true → (t : Tally) → Proper c.n t → Tallied X Check x.current.round t
-          → quorum c ≤ ones t.marks → Good c X A u x.current.round (takeSecond (seated c u x) (common (gathered t)))
-      unfolding takeSecond logWrite says
-      good-check b free t proper tallied full =
+      good_check : c.engine ≡ B → is_blank x.current.second ≡ true → (t : Tally) → Proper c.n t → Tallied X Check x.current.round t
+          → quorum c ≤ ones t.marks → Good c X A u x.current.round (take_second (seated c u x) (common (gathered t)))
+      unfolding take_second log_write says
+      good_check b free t proper tallied full =
           record {
-            fair = record { logged = f.current; current = f.current; checks = tallied-none X _ _; seconds = f.seconds };
-            kept = kept-on (withSecond x.current (common (gathered t))) refl stays;
+            fair = record { logged = f.current; current = f.current; checks = tallied_none X _ _; seconds = f.seconds };
+            kept = kept_on (with_second x.current (common (gathered t))) refl stays;
             message = λ h. (
               record {
                 proposal = f.current;
-                estimate = of (λ v. Sure c X A x.current.round (Mileage v)) (common (gathered t)) (λ v e. quorum-sure l c X A sent (back v e));
+                estimate = of (λ v. Sure c X A x.current.round (Mileage v)) (common (gathered t)) (λ v e. quorum_sure l c X A sent (back v e));
                 checked = λ k g. of (λ v. Quorum c X Check x.current.round (Mileage v)) (common (gathered t)) back;
               },
               λ i. (refl, rw b refl),
@@ -232,18 +232,18 @@ module _ (l : Limits) (c : Setup) (X : Message → Type 0) (A : ℕ → Type 0) 
           }
         where
           back : (v : ℕ) → common (gathered t) ≡ Mileage v → Quorum c X Check x.current.round (Mileage v)
-          back = common-quorum X Check x.current.round c t proper tallied full
+          back = common_quorum X Check x.current.round c t proper tallied full
 
-          stays : (b : Bool) → isBlank (half b x.current) ≡ false → half b (withSecond x.current (common (gathered t))) ≡ half b x.current
+          stays : (b : Bool) → is_blank (half b x.current) ≡ false → half b (with_second x.current (common (gathered t))) ≡ half b x.current
           stays true n = never (sym n ∙ free)
           stays false n = refl
 
-      good-close : (t : Tally) → Proper c.n t → Tallied X Second x.current.round t → ones t.marks ≡ quorum c
+      good_close : (t : Tally) → Proper c.n t → Tallied X Second x.current.round t → ones t.marks ≡ quorum c
           → Good c X A u x.current.round (close (seated c u x) t)
-      unfolding close atRound
-      good-close t proper tallied exact =
+      unfolding close at_round
+      good_close t proper tallied exact =
           record {
-            fair = fair-none c X A _ refl refl f.logged (next-sure l c X A sent unique r t proper tallied exact x.current.proposal f.current);
+            fair = fair_none c X A _ refl refl f.logged (next_sure l c X A sent unique r t proper tallied exact x.current.proposal f.current);
             kept = kept;
             message = λ h. absurd (h refl);
             decision = chosen l c X A sent unique r t proper tallied exact (common (gathered t)) refl;
@@ -252,55 +252,55 @@ module _ (l : Limits) (c : Setup) (X : Message → Type 0) (A : ℕ → Type 0) 
           r : ℕ
           r = x.current.round
 
-      module _ (k : Kind) (vote : isVote k ≡ true) (kind : m.kind ≡ k) (t : Tally) (proper : Proper c.n t)
+      module _ (k : Kind) (vote : is_vote k ≡ true) (kind : m.kind ≡ k) (t : Tally) (proper : Proper c.n t)
           (tallied : Tallied X k x.current.round t) where
         below : m.sender < c.n
-        below = omega (arith, (message-facts l m (sent m here).from.well-formed).numbers.below, (sent m here).from.n)
+        below = omega (arith, (message_facts l m (sent m here).from.well_formed).numbers.below, (sent m here).from.n)
 
-        proper-with : Proper c.n (mark t m.sender m.estimate)
-        proper-with = proper-mark c.n t proper m.sender m.estimate below (filled l c X A sent m here (rw kind vote))
+        proper_with : Proper c.n (mark t m.sender m.estimate)
+        proper_with = proper_mark c.n t proper m.sender m.estimate below (filled l c X A sent m here (rw kind vote))
 
-        tallied-with : Tallied X k x.current.round (mark t m.sender m.estimate)
-        tallied-with = tallied-mark X k x.current.round t m here kind same (omega (arith, below, proper.low, proper.typed.cells)) tallied
+        tallied_with : Tallied X k x.current.round (mark t m.sender m.estimate)
+        tallied_with = tallied_mark X k x.current.round t m here kind same (omega (arith, below, proper.low, proper.typed.cells)) tallied
 
-      good-kind : Good c X A u x.current.round (onKind m.kind (seated c u x) m)
-      unfolding checksWith secondsWith isFull mark
-      good-kind =
-          by-kind (Good c X A u x.current.round) m.kind (seated c u x) m
+      good_kind : Good c X A u x.current.round (on_kind m.kind (seated c u x) m)
+      unfolding checks_with seconds_with is_full mark
+      good_kind =
+          by_kind (Good c X A u x.current.round) m.kind (seated c u x) m
           (record {
-            nothing = good-silent c X A Refusal.None u _ (seated c u x) f kept;
-            first = λ e. good-first;
+            nothing = good_silent c X A Refusal.None u _ (seated c u x) f kept;
+            first = λ e. good_first;
             checks = λ e free n.
-                let p = proper-with Check refl e x.checks i.checks f.checks in
-                let t = tallied-with Check refl e x.checks i.checks f.checks in
-                by-check (Good c X A u x.current.round) (seated c u x) (checksWith (seated c u x) m)
-                (λ h. good-check (sym (sent m here).from.engine ∙ (check-mileage l m (kind-ok l c X A sent Check m here e)).0) free _ p t (leb-true _ _ h))
-                (λ h. good-silent c X A Refusal.None u _ _ (record { logged = f.logged; current = f.current; checks = t; seconds = f.seconds }) kept);
+                let p = proper_with Check refl e x.checks i.checks f.checks in
+                let t = tallied_with Check refl e x.checks i.checks f.checks in
+                by_check (Good c X A u x.current.round) (seated c u x) (checks_with (seated c u x) m)
+                (λ h. good_check (sym (sent m here).from.engine ∙ (check_mileage l m (kind_ok_lem l c X A sent Check m here e)).0) free _ p t (leb-true _ _ h))
+                (λ h. good_silent c X A Refusal.None u _ _ (record { logged = f.logged; current = f.current; checks = t; seconds = f.seconds }) kept);
             seconds = λ e n.
-                let p = proper-with Second refl e x.seconds i.seconds f.seconds in
-                let t = tallied-with Second refl e x.seconds i.seconds f.seconds in
-                by-second (Good c X A u x.current.round) (seated c u x) (secondsWith (seated c u x) m)
+                let p = proper_with Second refl e x.seconds i.seconds f.seconds in
+                let t = tallied_with Second refl e x.seconds i.seconds f.seconds in
+                by_second (Good c X A u x.current.round) (seated c u x) (seconds_with (seated c u x) m)
                 (λ h.
                 let full : quorum c ≤ ones (bit_or x.seconds.marks (2 ^ m.sender)) = leb-true _ _ h in
-                good-close _ p t (omega (arith, i.few, mark-adds x.seconds.marks m.sender n)))
-                (λ h. good-silent c X A Refusal.None u _ _ (record { logged = f.logged; current = f.current; checks = f.checks; seconds = t }) kept);
+                good_close _ p t (omega (arith, i.few, mark_adds x.seconds.marks m.sender n)))
+                (λ h. good_silent c X A Refusal.None u _ _ (record { logged = f.logged; current = f.current; checks = f.checks; seconds = t }) kept);
           })
 
-  good-received : (u : ℕ) (x : U.Unit) → Ready c (seated c u x) → Fair c X A (seated c u x) → VotesStand c X u x.logged → (m : Message) → X m
+  good_received : (u : ℕ) (x : U.Unit) → Ready c (seated c u x) → Fair c X A (seated c u x) → VotesStand c X u x.logged → (m : Message) → X m
       → Good c X A u m.round (received (seated c u x) m)
-  unfolding atRound
-  good-received u x i f kept m here =
-      by-round (Good c X A u m.round) (seated c u x) m (λ h. good-skip c X A u m.round m.sender (seated c u x) f kept)
-      (λ h. subst (λ r. Good c X A u r (onKind m.kind (seated c u x) m)) (sym h) (good-kind u x i f kept m here h))
-      (λ h. good-kind u (atRound x m.round m.proposal) (ready-above c (seated c u x) m.round m.proposal i h)
-      (fair-none c X A _ refl refl f.logged (sent m here).backed.proposal) kept m here refl)
+  unfolding at_round
+  good_received u x i f kept m here =
+      by_round (Good c X A u m.round) (seated c u x) m (λ h. good_skip c X A u m.round m.sender (seated c u x) f kept)
+      (λ h. subst (λ r. Good c X A u r (on_kind m.kind (seated c u x) m)) (sym h) (good_kind u x i f kept m here h))
+      (λ h. good_kind u (at_round x m.round m.proposal) (ready_above c (seated c u x) m.round m.proposal i h)
+      (fair_none c X A _ refl refl f.logged (sent m here).backed.proposal) kept m here refl)
 
-  pub good-deliver : (u : ℕ) (x : U.Unit) → Member l c X A u x → (m : Message) → X m → Good c X A u m.round (deliver l x m)
+  pub good_deliver : (u : ℕ) (x : U.Unit) → Member l c X A u x → (m : Message) → X m → Good c X A u m.round (deliver l x m)
   unfolding deliver
-  good-deliver u x i m here =
-      good-unless c X A u m.round (deliverConditions l x m) x (received x m) i.fair i.kept
+  good_deliver u x i m here =
+      good_unless c X A u m.round (deliver_conditions l x m) x (received x m) i.fair i.kept
       (subst (λ y. Good c X A u m.round (received y m)) (sym seat)
-      (good-received u x (ready l c u x (subst (WellFormed l) seat i.well-formed)) (subst (Fair c X A) seat i.fair) i.kept m here))
+      (good_received u x (ready l c u x (subst (WellFormed l) seat i.well_formed)) (subst (Fair c X A) seat i.fair) i.kept m here))
     where
       seat : x ≡ seated c u x
       seat =

@@ -11,30 +11,30 @@ use borrow.Author.Tests.{ltb-true}
 use lib.Dec.{ltb}
 use lib.ListN.{get_elem?}
 use Rattle.tally.specs.Limits.{Limits}
-use Rattle.tally.specs.Quorum.{quorumOf}
+use Rattle.tally.specs.Quorum.{quorum_of}
 use Rattle.tally.specs.declared.Estimate.{Estimate}
 use Rattle.tally.specs.declared.Estimate.TheVariants.{Blank, Split, Mileage}
 use Rattle.tally.proofs.Never.{never}
-use Rattle.contents.specs.Logs.{settingsOk}
-use Rattle.contents.specs.Messages.{emptyMessage}
+use Rattle.contents.specs.Logs.{settings_ok}
+use Rattle.contents.specs.Messages.{empty_message}
 use Rattle.contents.specs.declared.Kind.{Kind}
 use Rattle.contents.specs.declared.Kind.TheVariants.{Empty, First, Check, Second, Skip}
 use Rattle.contents.specs.declared.Message.{Message}
-use Rattle.consensus.specs.Methods.{propose, deliver, keyOff, keyOn}
+use Rattle.consensus.specs.Methods.{propose, deliver, key_off, key_on}
 use Rattle.consensus.specs.Sound.{From, Sound}
 use Rattle.consensus.specs.Step.{fresh}
-use Rattle.consensus.specs.Units.{WellFormed, atLog}
+use Rattle.consensus.specs.Units.{WellFormed, at_log}
 use Rattle.consensus.specs.declared.Answer.{Answer}
 use Rattle.consensus.specs.declared.Unit as U
-use Rattle.agreement.specs.Contents.{ContentsWorld, ContentsEvent, proposal, delivery, cut, off, on, contentsUnit, begun, unlessEmpty, isAccepted, after}
-use Rattle.agreement.specs.Contents.{afterCut, afterProposal, delivering, apply, step, view, AgreedContents}
-use Rattle.agreement.specs.Worlds.{Setup, settingsOf, Proposal, Decision, put, change, keep, report, decision, run, Given, Locked, Many, Seconded}
-use Rattle.consensus.proofs.Answers.{propose-keeps}
-use Rattle.consensus.proofs.Soundness.{sound-propose, sound-deliver, sound-key-off, sound-key-on, well-fresh}
-use Rattle.agreement.proofs.Votes.{Of, of-map, many-map, Sure, Chosen}
-use Rattle.agreement.proofs.Invariant.{Member, Invariant, locked-at, agreement, fair-up}
+use Rattle.agreement.specs.Contents.{ContentsWorld, ContentsEvent, proposal, delivery, cut, off, on, contents_unit, begun, unless_empty, is_accepted, after}
+use Rattle.agreement.specs.Contents.{after_cut, after_proposal, delivering, apply, step, view, AgreedContents}
+use Rattle.agreement.specs.Worlds.{Setup, settings_of, Proposal, Decision, put, change, keep, report, decision, run, Given, Locked, Many, Seconded}
+use Rattle.consensus.proofs.Answers.{propose_keeps}
+use Rattle.consensus.proofs.Soundness.{sound_propose, sound_deliver, sound_key_off, sound_key_on, well_fresh}
+use Rattle.agreement.proofs.Votes.{Of, of_map, many_map, Sure, Chosen}
+use Rattle.agreement.proofs.Invariant.{Member, Invariant, locked_at, agreement, fair_up}
 use Rattle.agreement.proofs.Changed.{New, changed}
-use Rattle.agreement.proofs.Good.{Good, fair-none, good-off, good-on, good-propose, good-deliver}
+use Rattle.agreement.proofs.Good.{Good, fair_none, good_off, good_on, good_propose, good_deliver}
 
 -- mileages that accepted proposal events gave
 abbrev pub Proposed : List Proposal → ℕ → Type 0
@@ -54,50 +54,50 @@ added xs none = xs
 added xs (some a) = xs ++ (a ∷ [])
 
 module _ {A : Type 0} where
-  added-up : (xs : List A) (o : Option A) (a : A) → Memᴰ a xs → Memᴰ a (added xs o)
-  added-up xs none a h = h
-  added-up xs (some b) a h = Memᴰ.append_left (b ∷ []) h
+  added_up : (xs : List A) (o : Option A) (a : A) → Memᴰ a xs → Memᴰ a (added xs o)
+  added_up xs none a h = h
+  added_up xs (some b) a h = Memᴰ.append_left (b ∷ []) h
 
-  added-back : (P : A → Type 0) (xs : List A) (o : Option A) → When P o → (a : A) → Memᴰ a (added xs o) → Memᴰ a xs ⊎ P a
-  added-back P xs none p a h = inl h
-  added-back P xs (some b) p a h = go (Memᴰ.append_cases xs h)
+  added_back : (P : A → Type 0) (xs : List A) (o : Option A) → When P o → (a : A) → Memᴰ a (added xs o) → Memᴰ a xs ⊎ P a
+  added_back P xs none p a h = inl h
+  added_back P xs (some b) p a h = go (Memᴰ.append_cases xs h)
     where
       go : Memᴰ a xs ⊎ Memᴰ a (b ∷ []) → Memᴰ a xs ⊎ P a
       go (inl m) = inl m
       go (inr m) = inr (subst P (sym (Memᴰ.eq_of_singleton m)) p)
 
   -- what is found at a place is in the list
-  pub at-place : (P : Option A → Type 0) (xs : List A) → P none → ((a : A) → Memᴰ a xs → P (some a)) → (k : ℕ) → P (get_elem? xs k)
-  at-place P [] p f k = p
-  at-place P (x ∷ xs) p f zero = f x (Memᴰ.head refl)
-  at-place P (x ∷ xs) p f (suc k) = at-place P xs p (λ a h. f a (Memᴰ.tail h)) k
+  pub at_place : (P : Option A → Type 0) (xs : List A) → P none → ((a : A) → Memᴰ a xs → P (some a)) → (k : ℕ) → P (get_elem? xs k)
+  at_place P [] p f k = p
+  at_place P (x ∷ xs) p f zero = f x (Memᴰ.head refl)
+  at_place P (x ∷ xs) p f (suc k) = at_place P xs p (λ a h. f a (Memᴰ.tail h)) k
 
 -- a message sent is not empty
-when-sent : (P : Message → Type 0) (k : Kind) (m : Message) → ((k ≡ Empty → ⊥) → P m) → When P (unlessEmpty k m)
-when-sent P Empty m f = tt
-when-sent P First m f = f (λ e. never cc)
-when-sent P Check m f = f (λ e. never cc)
-when-sent P Second m f = f (λ e. never cc)
-when-sent P Skip m f = f (λ e. never cc)
+when_sent : (P : Message → Type 0) (k : Kind) (m : Message) → ((k ≡ Empty → ⊥) → P m) → When P (unless_empty k m)
+when_sent P Empty m f = tt
+when_sent P First m f = f (λ e. never cc)
+when_sent P Check m f = f (λ e. never cc)
+when_sent P Second m f = f (λ e. never cc)
+when_sent P Skip m f = f (λ e. never cc)
 
-when-decided : (P : Decision → Type 0) (u r : ℕ) (e : Estimate) → Of (λ v. P (record { unit = u; round = r; mileage = v })) e → When P (decision u r e)
-when-decided P u r Blank h = tt
-when-decided P u r Split h = tt
-when-decided P u r (Mileage v) h = h
+when_decided : (P : Decision → Type 0) (u r : ℕ) (e : Estimate) → Of (λ v. P (record { unit = u; round = r; mileage = v })) e → When P (decision u r e)
+when_decided P u r Blank h = tt
+when_decided P u r Split h = tt
+when_decided P u r (Mileage v) h = h
 
 -- the world after an answer, field by field
-abbrev pub answerAdded : ContentsWorld → List Proposal → ℕ → ℕ → Answer → ContentsWorld
-answerAdded w ps u r a =
+abbrev pub answer_added : ContentsWorld → List Proposal → ℕ → ℕ → Answer → ContentsWorld
+answer_added w ps u r a =
     record {
       units = put w.units u a.unit;
-      sent = added w.sent (unlessEmpty a.message.kind a.message);
+      sent = added w.sent (unless_empty a.message.kind a.message);
       proposed = ps;
       decided = added w.decided (decision u r a.decision);
     }
 
-pub after-is : (w : ContentsWorld) (u r : ℕ) (a : Answer) → after w u r a ≡ answerAdded w w.proposed u r a
+pub after_is : (w : ContentsWorld) (u r : ℕ) (a : Answer) → after w u r a ≡ answer_added w w.proposed u r a
 unfolding after
-after-is w u r a = go (unlessEmpty a.message.kind a.message) (decision u r a.decision)
+after_is w u r a = go (unless_empty a.message.kind a.message) (decision u r a.decision)
   where
     go : (o : Option Message) (d : Option Decision) → report (keep (change w u a.unit) o) d
         ≡ record { units = put w.units u a.unit; sent = added w.sent o; proposed = w.proposed; decided = added w.decided d }
@@ -106,14 +106,14 @@ after-is w u r a = go (unlessEmpty a.message.kind a.message) (decision u r a.dec
     go (some m) none = refl
     go (some m) (some d) = refl
 
-pub run-append : {W E : Type 0} (step : W → E → W) (w : W) (xs ys : List E) → run step w (xs ++ ys) ≡ run step (run step w xs) ys
+pub run_append : {W E : Type 0} (step : W → E → W) (w : W) (xs ys : List E) → run step w (xs ++ ys) ≡ run step (run step w xs) ys
 unfolding run
-run-append step w [] ys = refl
-run-append step w (x ∷ xs) ys = run-append step (step w x) xs ys
+run_append step w [] ys = refl
+run_append step w (x ∷ xs) ys = run_append step (step w x) xs ys
 
-pub run-snoc : {W E : Type 0} (step : W → E → W) (w : W) (xs : List E) (e : E) → run step w (xs ++ (e ∷ [])) ≡ step (run step w xs) e
+pub run_snoc : {W E : Type 0} (step : W → E → W) (w : W) (xs : List E) (e : E) → run step w (xs ++ (e ∷ [])) ≡ step (run step w xs) e
 unfolding run
-run-snoc step w xs e = run-append step w xs (e ∷ [])
+run_snoc step w xs e = run_append step w xs (e ∷ [])
 
 -- ---- the events
 
@@ -125,8 +125,8 @@ pub record Later (w w' : ContentsWorld) : Type 0 where
 pub now : (w : ContentsWorld) → Later w w
 now w = record { sent = λ m h. h; proposed = λ v h. h }
 
-pub and-later : {a b c : ContentsWorld} → Later a b → Later b c → Later a c
-and-later p q = record { sent = λ m h. q.sent m (p.sent m h); proposed = λ v h. q.proposed v (p.proposed v h) }
+pub and_later : {a b c : ContentsWorld} → Later a b → Later b c → Later a c
+and_later p q = record { sent = λ m h. q.sent m (p.sent m h); proposed = λ v h. q.proposed v (p.proposed v h) }
 
 -- an event leads from w to w': the invariant holds there, and what is decided there was proposed before
 record Next (l : Limits) (c : Setup) (w w' : ContentsWorld) : Type 0 where
@@ -135,11 +135,11 @@ record Next (l : Limits) (c : Setup) (w w' : ContentsWorld) : Type 0 where
   later : Later w w'
 
 module _ (l : Limits) (c : Setup) (w : ContentsWorld) (inv : Inv l c w) where
-  given-now : (d : Decision) → Memᴰ d w.decided → Proposed w.proposed d.mileage
-  given-now d h = (inv.decided d h).1
+  given_now : (d : Decision) → Memᴰ d w.decided → Proposed w.proposed d.mileage
+  given_now d h = (inv.decided d h).1
 
   same : Next l c w w
-  same = record { inv = inv; given = given-now; later = now w }
+  same = record { inv = inv; given = given_now; later = now w }
 
   -- an event that changes nothing unless b
   if : (b : Bool) {w' : ContentsWorld} → (b ≡ true → Next l c w w') → Next l c w (cond b w' w)
@@ -154,40 +154,40 @@ module _ (l : Limits) (c : Setup) (w : ContentsWorld) (inv : Inv l c w) where
 
   module _ (u : ℕ) (here : Member l c X A u (w.units u)) where
     -- an answer of the unit, which is y by then
-    module _ (C : ℕ → Type 0) (r : ℕ) (y : U.Unit) (settings : y.settings ≡ settingsOf c u) (a : Answer) (sound : Sound l y a)
+    module _ (C : ℕ → Type 0) (r : ℕ) (y : U.Unit) (settings : y.settings ≡ settings_of c u) (a : Answer) (sound : Sound l y a)
         (good : Good c X C u r a) where
       member : Member l c X C u a.unit
-      member = record { well-formed = sound.unit; settings = sound.settings ∙ settings; fair = good.fair; kept = good.kept }
+      member = record { well_formed = sound.unit; settings = sound.settings ∙ settings; fair = good.fair; kept = good.kept }
 
       new : (a.message.kind ≡ Empty → ⊥) → New l c X C u a.unit.logged a.message
       new n = let g = good.message n in record { from = go sound.message; backed = g.0; stands = g.1 }
         where
-          go : (a.message ≡ emptyMessage) ⊎ From l y.settings a.message → From l (settingsOf c u) a.message
+          go : (a.message ≡ empty_message) ⊎ From l y.settings a.message → From l (settings_of c u) a.message
           go (inl e) = absurd (n (ap (λ m. m.kind) e))
           go (inr f) = subst (λ s. From l s a.message) settings f
 
-    after-next : (ps : List Proposal) → ((v : ℕ) → A v → Proposed ps v) → (r : ℕ) (a : Answer) → Sound l (w.units u) a
-        → Good c X (Proposed ps) u r a → Of A a.decision → Next l c w (answerAdded w ps u r a)
-    after-next ps more r a sound good given =
+    after_next : (ps : List Proposal) → ((v : ℕ) → A v → Proposed ps v) → (r : ℕ) (a : Answer) → Sound l (w.units u) a
+        → Good c X (Proposed ps) u r a → Of A a.decision → Next l c w (answer_added w ps u r a)
+    after_next ps more r a sound good given =
         record {
           inv =
-              changed l c w.units inv u a.unit (member C r (w.units u) here.settings a sound good) (added-up w.sent o) more
-              (added-back P w.sent o (when-sent P a.message.kind a.message (new C r (w.units u) here.settings a sound good)))
-              (added-back Q w.decided (decision u r a.decision) (when-decided Q u r a.decision good.decision));
-          given = λ d h. before d (added-back (λ d. A d.mileage) w.decided (decision u r a.decision)
-              (when-decided (λ d. A d.mileage) u r a.decision given) d h);
-          later = record { sent = added-up w.sent o; proposed = more };
+              changed l c w.units inv u a.unit (member C r (w.units u) here.settings a sound good) (added_up w.sent o) more
+              (added_back P w.sent o (when_sent P a.message.kind a.message (new C r (w.units u) here.settings a sound good)))
+              (added_back Q w.decided (decision u r a.decision) (when_decided Q u r a.decision good.decision));
+          given = λ d h. before d (added_back (λ d. A d.mileage) w.decided (decision u r a.decision)
+              (when_decided (λ d. A d.mileage) u r a.decision given) d h);
+          later = record { sent = added_up w.sent o; proposed = more };
         }
       where
         before : (d : Decision) → Memᴰ d w.decided ⊎ A d.mileage → A d.mileage
-        before d (inl h) = given-now d h
+        before d (inl h) = given_now d h
         before d (inr h) = h
 
         C : ℕ → Type 0
         C = Proposed ps
 
         o : Option Message
-        o = unlessEmpty a.message.kind a.message
+        o = unless_empty a.message.kind a.message
 
         P : Message → Type 0
         P = New l c X C u a.unit.logged
@@ -196,29 +196,29 @@ module _ (l : Limits) (c : Setup) (w : ContentsWorld) (inv : Inv l c w) where
         Q d = Chosen c X C d.round d.mileage
 
     -- nothing is sent or decided
-    change-next : (y : U.Unit) → y.settings ≡ settingsOf c u → (a : Answer) → Sound l y a → Good c X A u 0 a → Next l c w (change w u a.unit)
-    change-next y settings a sound good =
+    change_next : (y : U.Unit) → y.settings ≡ settings_of c u → (a : Answer) → Sound l y a → Good c X A u 0 a → Next l c w (change w u a.unit)
+    change_next y settings a sound good =
         record {
           inv = changed l c w.units inv u a.unit (member A 0 y settings a sound good) (λ m h. h) (λ v h. h) (λ m h. inl h) (λ d h. inl h);
-          given = given-now;
+          given = given_now;
           later = record { sent = λ m h. h; proposed = λ v h. h };
         }
 
-    off-next : (y : U.Unit) → Member l c X A u y → Next l c w (change w u (keyOff y).unit)
-    off-next y i = change-next y i.settings (keyOff y) (sound-key-off l y i.well-formed) (good-off c X A u 0 y i.fair i.kept)
+    off_next : (y : U.Unit) → Member l c X A u y → Next l c w (change w u (key_off y).unit)
+    off_next y i = change_next y i.settings (key_off y) (sound_key_off l y i.well_formed) (good_off c X A u 0 y i.fair i.kept)
 
-    on-next : (y : U.Unit) → Member l c X A u y → Next l c w (change w u (keyOn y).unit)
-    on-next y i = change-next y i.settings (keyOn y) (sound-key-on l y i.well-formed) (good-on c X A u 0 y i.fair i.kept)
+    on_next : (y : U.Unit) → Member l c X A u y → Next l c w (change w u (key_on y).unit)
+    on_next y i = change_next y i.settings (key_on y) (sound_key_on l y i.well_formed) (good_on c X A u 0 y i.fair i.kept)
 
-    proposal-next : (v : ℕ) → Next l c w (afterProposal w u v (propose l (w.units u) v))
-    unfolding afterProposal
-    proposal-next v =
-        if (isAccepted a)
-        (λ h. rw (after-is w u 0 a)
-        (after-next (w.proposed ++ (p ∷ [])) more 0 a (sound-propose l (w.units u) v here.well-formed)
-        (good-propose c X _ u 0 (w.units u) (fair-up c (λ m h. h) more (w.units u) here.fair) here.kept l v
+    proposal_next : (v : ℕ) → Next l c w (after_proposal w u v (propose l (w.units u) v))
+    unfolding after_proposal
+    proposal_next v =
+        if (is_accepted a)
+        (λ h. rw (after_is w u 0 a)
+        (after_next (w.proposed ++ (p ∷ [])) more 0 a (sound_propose l (w.units u) v here.well_formed)
+        (good_propose c X _ u 0 (w.units u) (fair_up c (λ m h. h) more (w.units u) here.fair) here.kept l v
         (u, Memᴰ.append_right w.proposed (Memᴰ.head refl)))
-        (rw (propose-keeps l (w.units u) v).1 tt)))
+        (rw (propose_keeps l (w.units u) v).1 tt)))
       where
         a : Answer
         a = propose l (w.units u) v
@@ -231,56 +231,56 @@ module _ (l : Limits) (c : Setup) (w : ContentsWorld) (inv : Inv l c w) where
 
     module _ (m : Message) (sent : X m) where
       sound : Sound l (w.units u) (deliver l (w.units u) m)
-      sound = sound-deliver l (w.units u) m here.well-formed
+      sound = sound_deliver l (w.units u) m here.well_formed
 
       good : Good c X A u m.round (deliver l (w.units u) m)
-      good = good-deliver l c X A inv.sent inv.unique u (w.units u) here m sent
+      good = good_deliver l c X A inv.sent inv.unique u (w.units u) here m sent
 
-      delivery-next : Next l c w (after w u m.round (deliver l (w.units u) m))
-      delivery-next =
-          rw (after-is w u m.round (deliver l (w.units u) m))
-          (after-next w.proposed (λ v h. h) m.round (deliver l (w.units u) m) sound good
-          (of-map {F = Chosen c X A m.round} (λ v h. h.1) (deliver l (w.units u) m).decision good.decision))
+      delivery_next : Next l c w (after w u m.round (deliver l (w.units u) m))
+      delivery_next =
+          rw (after_is w u m.round (deliver l (w.units u) m))
+          (after_next w.proposed (λ v h. h) m.round (deliver l (w.units u) m) sound good
+          (of_map {F = Chosen c X A m.round} (λ v h. h.1) (deliver l (w.units u) m).decision good.decision))
 
-      cut-next : Next l c w (afterCut w u (deliver l (w.units u) m))
-      unfolding afterCut
-      cut-next =
-          if (isAccepted (deliver l (w.units u) m))
-          (λ h. off-next (deliver l (w.units u) m).unit (member A m.round (w.units u) here.settings _ sound good))
+      cut_next : Next l c w (after_cut w u (deliver l (w.units u) m))
+      unfolding after_cut
+      cut_next =
+          if (is_accepted (deliver l (w.units u) m))
+          (λ h. off_next (deliver l (w.units u) m).unit (member A m.round (w.units u) here.settings _ sound good))
 
-  apply-next : (e : ContentsEvent) → contentsUnit e < c.n → Next l c w (apply l w e)
+  apply_next : (e : ContentsEvent) → contents_unit e < c.n → Next l c w (apply l w e)
   unfolding apply delivering
-  apply-next (proposal u v) b = proposal-next u (inv.units u b) v
-  apply-next (delivery u k) b =
-      at-place (λ o. Next l c w (delivering l w u (λ m a. after w u m.round a) o)) w.sent same (delivery-next u (inv.units u b)) k
-  apply-next (cut u k) b =
-      at-place (λ o. Next l c w (delivering l w u (λ m a. afterCut w u a) o)) w.sent same (cut-next u (inv.units u b)) k
-  apply-next (off u) b = off-next u (inv.units u b) (w.units u) (inv.units u b)
-  apply-next (on u) b = on-next u (inv.units u b) (w.units u) (inv.units u b)
+  apply_next (proposal u v) b = proposal_next u (inv.units u b) v
+  apply_next (delivery u k) b =
+      at_place (λ o. Next l c w (delivering l w u (λ m a. after w u m.round a) o)) w.sent same (delivery_next u (inv.units u b)) k
+  apply_next (cut u k) b =
+      at_place (λ o. Next l c w (delivering l w u (λ m a. after_cut w u a) o)) w.sent same (cut_next u (inv.units u b)) k
+  apply_next (off u) b = off_next u (inv.units u b) (w.units u) (inv.units u b)
+  apply_next (on u) b = on_next u (inv.units u b) (w.units u) (inv.units u b)
 
-  step-next : (e : ContentsEvent) → Next l c w (step l c.n w e)
+  step_next : (e : ContentsEvent) → Next l c w (step l c.n w e)
   unfolding step
-  step-next e = if (ltb (contentsUnit e) c.n) (λ h. apply-next e (ltb-true _ _ h))
+  step_next e = if (ltb (contents_unit e) c.n) (λ h. apply_next e (ltb-true _ _ h))
 
 -- ---- the invariant over a history
 
-pub step-inv : (l : Limits) (c : Setup) (w : ContentsWorld) (e : ContentsEvent) → Inv l c w → Inv l c (step l c.n w e)
-step-inv l c w e i = (step-next l c w i e).inv
+pub step_inv : (l : Limits) (c : Setup) (w : ContentsWorld) (e : ContentsEvent) → Inv l c w → Inv l c (step l c.n w e)
+step_inv l c w e i = (step_next l c w i e).inv
 
-pub run-inv : (l : Limits) (c : Setup) (w : ContentsWorld) (es : List ContentsEvent) → Inv l c w → Inv l c (run (step l c.n) w es)
+pub run_inv : (l : Limits) (c : Setup) (w : ContentsWorld) (es : List ContentsEvent) → Inv l c w → Inv l c (run (step l c.n) w es)
 unfolding run
-run-inv l c w [] inv = inv
-run-inv l c w (e ∷ es) inv = run-inv l c (step l c.n w e) es (step-inv l c w e inv)
+run_inv l c w [] inv = inv
+run_inv l c w (e ∷ es) inv = run_inv l c (step l c.n w e) es (step_inv l c w e inv)
 
-pub begun-inv : (l : Limits) (c : Setup) → ((u : ℕ) → u < c.n → settingsOk (settingsOf c u) ≡ true) → Inv l c (begun c)
-unfolding begun fresh atLog
-begun-inv l c ok =
+pub begun_inv : (l : Limits) (c : Setup) → ((u : ℕ) → u < c.n → settings_ok (settings_of c u) ≡ true) → Inv l c (begun c)
+unfolding begun fresh at_log
+begun_inv l c ok =
     record {
       units = λ u b.
           record {
-            well-formed = well-fresh l (settingsOf c u) (ok u b);
+            well_formed = well_fresh l (settings_of c u) (ok u b);
             settings = refl;
-            fair = fair-none c _ _ _ refl refl sure sure;
+            fair = fair_none c _ _ _ refl refl sure sure;
             kept = λ m h. absurd (Memᴰ.not-nil h);
           };
       sent = λ m h. absurd (Memᴰ.not-nil h);
@@ -294,12 +294,12 @@ begun-inv l c ok =
 -- ---- what the byte level reads of it
 
 module _ (l : Limits) (c : Setup) (w : ContentsWorld) (inv : Inv l c w) where
-  pub well-formed-unit : (u : ℕ) → u < c.n → WellFormed l (w.units u) × ((w.units u).settings ≡ settingsOf c u)
-  well-formed-unit u b = let i = inv.units u b in (i.well-formed, i.settings)
+  pub well_formed_unit : (u : ℕ) → u < c.n → WellFormed l (w.units u) × ((w.units u).settings ≡ settings_of c u)
+  well_formed_unit u b = let i = inv.units u b in (i.well_formed, i.settings)
 
   -- a well-formed message of engine, n and entry as all units have them
-  pub from-unit : (m : Message) → Memᴰ m w.sent → From l (settingsOf c m.sender) m
-  from-unit m h = (inv.sent m h).from
+  pub from_unit : (m : Message) → Memᴰ m w.sent → From l (settings_of c m.sender) m
+  from_unit m h = (inv.sent m h).from
 
 -- ---- demand 3
 
@@ -307,36 +307,36 @@ module _ (l : Limits) (c : Setup) where
   abbrev to : ContentsWorld → List ContentsEvent → ContentsWorld
   to w es = run (step l c.n) w es
 
-  pub run-later : (w : ContentsWorld) (es : List ContentsEvent) → Inv l c w → Later w (to w es)
+  pub run_later : (w : ContentsWorld) (es : List ContentsEvent) → Inv l c w → Later w (to w es)
   unfolding run
-  run-later w [] inv = now w
-  run-later w (e ∷ es) inv =
-      let n = step-next l c w inv e in
-      and-later n.later (run-later (step l c.n w e) es n.inv)
+  run_later w [] inv = now w
+  run_later w (e ∷ es) inv =
+      let n = step_next l c w inv e in
+      and_later n.later (run_later (step l c.n w e) es n.inv)
 
-  pub step-later : (w : ContentsWorld) (e : ContentsEvent) → Inv l c w → Later w (step l c.n w e)
-  step-later w e inv = (step-next l c w inv e).later
+  pub step_later : (w : ContentsWorld) (e : ContentsEvent) → Inv l c w → Later w (step l c.n w e)
+  step_later w e inv = (step_next l c w inv e).later
 
   -- the mileage of what is decided was given, and of what is decided after an event it was given before it
-  pub decided-given : (w : ContentsWorld) → Inv l c w → (d : Decision) → Memᴰ d w.decided → Given d.mileage w
-  decided-given w i d h = let g = given-now l c w i d h in record { by = g.0; there = g.1 }
+  pub decided_given : (w : ContentsWorld) → Inv l c w → (d : Decision) → Memᴰ d w.decided → Given d.mileage w
+  decided_given w i d h = let g = given_now l c w i d h in record { by = g.0; there = g.1 }
 
-  pub step-proposed : (w : ContentsWorld) (e : ContentsEvent) → Inv l c w → (d : Decision) → Memᴰ d (step l c.n w e).decided → Given d.mileage w
-  step-proposed w e i d h = let g = (step-next l c w i e).given d h in record { by = g.0; there = g.1 }
+  pub step_proposed : (w : ContentsWorld) (e : ContentsEvent) → Inv l c w → (d : Decision) → Memᴰ d (step l c.n w e).decided → Given d.mileage w
+  step_proposed w e i d h = let g = (step_next l c w i e).given d h in record { by = g.0; there = g.1 }
 
   -- a state that was sure is locked by what is decided later
-  pub locked-later : (w w' : ContentsWorld) → Later w w' → Inv l c w → Inv l c w' → (u : ℕ) → u < c.n → (d : Decision)
+  pub locked_later : (w w' : ContentsWorld) → Later w w' → Inv l c w → Inv l c w' → (u : ℕ) → u < c.n → (d : Decision)
       → Memᴰ d w'.decided
       → Locked d (w.units u).logged × Locked d (w.units u).current
-  locked-later w w' more was inv u b d h =
-      let f = fair-up c more.sent more.proposed (w.units u) (was.units u b).fair in
-      (locked-at l c _ _ _ _ inv d h (w.units u).logged f.logged, locked-at l c _ _ _ _ inv d h (w.units u).current f.current)
+  locked_later w w' more was inv u b d h =
+      let f = fair_up c more.sent more.proposed (w.units u) (was.units u b).fair in
+      (locked_at l c _ _ _ _ inv d h (w.units u).logged f.logged, locked_at l c _ _ _ _ inv d h (w.units u).current f.current)
 
   -- a quorum of SECONDs agreed
-  pub seconds-sent : (w : ContentsWorld) → Inv l c w → (d : Decision) → Memᴰ d w.decided
-      → Many c.n (quorumOf c.engine c.n) (Seconded view w d)
-  seconds-sent w inv d h =
-      many-map (λ u a.
+  pub seconds_sent : (w : ContentsWorld) → Inv l c w → (d : Decision) → Memᴰ d w.decided
+      → Many c.n (quorum_of c.engine c.n) (Seconded view w d)
+  seconds_sent w inv d h =
+      many_map (λ u a.
       record {
         copy = a.message;
         message = a.message;
@@ -354,26 +354,26 @@ module _ (l : Limits) (c : Setup) where
       record {
         same = agreement l c _ _ _ _ end;
         proposed = λ xs ys e split d h.
-            step-proposed (to w xs) e (run-inv l c w xs inv) d
-            (subst (λ (z : ContentsWorld). Memᴰ d z.decided) (run-snoc (step l c.n) w xs e) h);
+            step_proposed (to w xs) e (run_inv l c w xs inv) d
+            (subst (λ (z : ContentsWorld). Memᴰ d z.decided) (run_snoc (step l c.n) w xs e) h);
         logs = λ xs ys split u b s h d i. subst (Locked d) h (ever xs ys split u b d i).0;
         images = λ xs ys split u b s h d i. subst (Locked d) h.1 (ever xs ys split u b d i).1;
-        logs-read = λ u b. (((to w es).units u).logged, refl);
-        images-read = λ u b on. (((to w es).units u).current, (on, refl));
-        seconded = seconds-sent (to w es) end;
+        logs_read = λ u b. (((to w es).units u).logged, refl);
+        images_read = λ u b on. (((to w es).units u).current, (on, refl));
+        seconded = seconds_sent (to w es) end;
       }
     where
       end : Inv l c (to w es)
-      end = run-inv l c w es inv
+      end = run_inv l c w es inv
 
       -- at every time before, against the decisions of the whole history
       ever : (xs ys : List ContentsEvent) → es ≡ xs ++ ys → (u : ℕ) → u < c.n → (d : Decision) → Memᴰ d (to w es).decided
           → Locked d ((to w xs).units u).logged × Locked d ((to w xs).units u).current
       ever xs ys split u b d i =
-          let was = run-inv l c w xs inv in
-          let whole : to w es ≡ to (to w xs) ys = ap (to w) split ∙ run-append (step l c.n) w xs ys in
-          locked-later (to w xs) (to (to w xs) ys) (run-later (to w xs) ys was) was (run-inv l c (to w xs) ys was) u b d
+          let was = run_inv l c w xs inv in
+          let whole : to w es ≡ to (to w xs) ys = ap (to w) split ∙ run_append (step l c.n) w xs ys in
+          locked_later (to w xs) (to (to w xs) ys) (run_later (to w xs) ys was) was (run_inv l c (to w xs) ys was) u b d
           (subst (λ (z : ContentsWorld). Memᴰ d z.decided) whole i)
 
-  pub agreed-begun : ((u : ℕ) → u < c.n → settingsOk (settingsOf c u) ≡ true) → (es : List ContentsEvent) → AgreedContents l c (begun c) es
-  agreed-begun ok es = agreed (begun c) es (begun-inv l c ok)
+  pub agreed_begun : ((u : ℕ) → u < c.n → settings_ok (settings_of c u) ≡ true) → (es : List ContentsEvent) → AgreedContents l c (begun c) es
+  agreed_begun ok es = agreed (begun c) es (begun_inv l c ok)

@@ -12,18 +12,18 @@ use Rattle.tally.specs.declared.Engine.TheVariants.{B}
 use Rattle.tally.specs.declared.Estimate.{Estimate}
 use Rattle.tally.specs.declared.Estimate.TheVariants.{Mileage}
 use Rattle.tally.specs.declared.Tally.{Tally}
-use Rattle.contents.specs.Estimates.{isB, isBlank}
+use Rattle.contents.specs.Estimates.{is_b, is_blank}
 use Rattle.contents.specs.declared.Kind.{Kind}
 use Rattle.contents.specs.declared.Kind.TheVariants.{Check, Second}
 use Rattle.contents.specs.declared.Message.{Message}
 use Rattle.contents.specs.declared.State.{State}
-use Rattle.consensus.specs.Methods.{isSecond}
+use Rattle.consensus.specs.Methods.{is_second}
 use Rattle.consensus.specs.Sound.{From}
 use Rattle.consensus.specs.Units.{WellFormed}
 use Rattle.consensus.specs.declared.Unit as U
-use Rattle.agreement.specs.Worlds.{Setup, settingsOf, Decision, Locked}
-use Rattle.agreement.proofs.Votes.{Of, of-map, shared, isVote, Vote, Unique, Quorum, Sure, SureOf, Chosen, one-quorum, locked, vote-up, quorum-up}
-use Rattle.agreement.proofs.Votes.{sure-up}
+use Rattle.agreement.specs.Worlds.{Setup, settings_of, Decision, Locked}
+use Rattle.agreement.proofs.Votes.{Of, of_map, shared, is_vote, Vote, Unique, Quorum, Sure, SureOf, Chosen, one_quorum, locked, vote_up, quorum_up}
+use Rattle.agreement.proofs.Votes.{sure_up}
 
 -- what is safe in a message
 pub record Backed (c : Setup) (X : Message → Type 0) (A : ℕ → Type 0) (m : Message) : Type 0 where
@@ -33,7 +33,7 @@ pub record Backed (c : Setup) (X : Message → Type 0) (A : ℕ → Type 0) (m :
   pub checked : m.kind ≡ Second → c.engine ≡ B → Of (λ v. Quorum c X Check m.round (Mileage v)) m.estimate
 
 pub record FairMessage (l : Limits) (c : Setup) (X : Message → Type 0) (A : ℕ → Type 0) (m : Message) : Type 0 where
-  pub from : From l (settingsOf c m.sender) m
+  pub from : From l (settings_of c m.sender) m
   pub backed : Backed c X A m
 
 -- one of a state's estimates: the second or the first
@@ -42,18 +42,18 @@ half b s = cond b s.second s.first
 
 -- a vote stands in a log: a SECOND of B is the second estimate, the others are the first
 abbrev pub slot : Engine → Kind → Bool
-slot g k = isB g && isSecond k
+slot g k = is_b g && is_second k
 
 abbrev pub Stands : Setup → State → Message → Type 0
 Stands c s m = (m.round ≡ s.round) × (half (slot c.engine m.kind) s ≡ m.estimate)
 
 -- each vote that unit u sent stands in its log s, or is of a round below
 abbrev pub VotesStand : Setup → (Message → Type 0) → ℕ → State → Type 0
-VotesStand c X u s = (m : Message) → X m → isVote m.kind ≡ true → m.sender ≡ u → (m.round < s.round) ⊎ Stands c s m
+VotesStand c X u s = (m : Message) → X m → is_vote m.kind ≡ true → m.sender ≡ u → (m.round < s.round) ⊎ Stands c s m
 
 -- what is gathered was sent
 abbrev pub Tallied : (Message → Type 0) → Kind → ℕ → Tally → Type 0
-Tallied X k r t = (s : ℕ) → isBlank (held t s) ≡ false → Vote X k s r (held t s)
+Tallied X k r t = (s : ℕ) → is_blank (held t s) ≡ false → Vote X k s r (held t s)
 
 pub record Fair (c : Setup) (X : Message → Type 0) (A : ℕ → Type 0) (x : U.Unit) : Type 0 where
   pub logged : Sure c X A x.logged.round x.logged.proposal
@@ -62,8 +62,8 @@ pub record Fair (c : Setup) (X : Message → Type 0) (A : ℕ → Type 0) (x : U
   pub seconds : Tallied X Second x.current.round x.seconds
 
 pub record Member (l : Limits) (c : Setup) (X : Message → Type 0) (A : ℕ → Type 0) (u : ℕ) (x : U.Unit) : Type 0 where
-  pub well-formed : WellFormed l x
-  pub settings : x.settings ≡ settingsOf c u
+  pub well_formed : WellFormed l x
+  pub settings : x.settings ≡ settings_of c u
   pub fair : Fair c X A x
   pub kept : VotesStand c X u x.logged
 
@@ -76,26 +76,26 @@ pub record Invariant (l : Limits) (c : Setup) (X : Message → Type 0) (A : ℕ 
 -- ---- votes of the messages sent
 
 module _ (l : Limits) (c : Setup) (X : Message → Type 0) (A : ℕ → Type 0) (sent : (m : Message) → X m → FairMessage l c X A m) where
-  pub vote-sure : {k : Kind} {u r v : ℕ} → Vote X k u r (Mileage v) → Sure c X A r (Mileage v)
-  vote-sure {v = v} a =
+  pub vote_sure : {k : Kind} {u r v : ℕ} → Vote X k u r (Mileage v) → Sure c X A r (Mileage v)
+  vote_sure {v = v} a =
       subst (λ r. Sure c X A r (Mileage v)) a.round
       (subst (SureOf c X A a.message.round) a.estimate (sent a.message a.sent).backed.estimate)
 
-  pub quorum-sure : {k : Kind} {r v : ℕ} → Quorum c X k r (Mileage v) → Sure c X A r (Mileage v)
-  quorum-sure a = vote-sure (shared c a a).1.0
+  pub quorum_sure : {k : Kind} {r v : ℕ} → Quorum c X k r (Mileage v) → Sure c X A r (Mileage v)
+  quorum_sure a = vote_sure (shared c a a).1.0
 
 -- ---- demand 3's claims
 
 module _ (l : Limits) (c : Setup) (X : Message → Type 0) (A : ℕ → Type 0) (D : Decision → Type 0) (N : ℕ → U.Unit)
     (inv : Invariant l c X A D N) where
-  pub locked-at : (d : Decision) → D d → (s : State) → Sure c X A s.round s.proposal → Locked d s
-  locked-at d h s sure b = locked c X inv.unique d.round d.mileage s.round s.proposal (inv.decided d h).0 b sure.0
+  pub locked_at : (d : Decision) → D d → (s : State) → Sure c X A s.round s.proposal → Locked d s
+  locked_at d h s sure b = locked c X inv.unique d.round d.mileage s.round s.proposal (inv.decided d h).0 b sure.0
 
   later : (a b : Decision) → D a → D b → a.round < b.round → b.mileage ≡ a.mileage
   later a b p q h =
       let e : Mileage b.mileage ≡ Mileage a.mileage =
       locked c X inv.unique a.round a.mileage b.round (Mileage b.mileage) (inv.decided a p).0 h
-      (quorum-sure l c X A inv.sent (inv.decided b q).0).0 in
+      (quorum_sure l c X A inv.sent (inv.decided b q).0).0 in
       cc
 
   pub agreement : (a b : Decision) → D a → D b → a.mileage ≡ b.mileage
@@ -106,26 +106,26 @@ module _ (l : Limits) (c : Setup) (X : Message → Type 0) (A : ℕ → Type 0) 
       go (no h) (yes i) = later b a q p i
       go (no h) (no i) =
           let e : b.round ≡ a.round = omega arith in
-          let f = one-quorum c X inv.unique Second refl a.round (Mileage a.mileage) (Mileage b.mileage) (inv.decided a p).0
+          let f = one_quorum c X inv.unique Second refl a.round (Mileage a.mileage) (Mileage b.mileage) (inv.decided a p).0
           (subst (λ r. Quorum c X Second r (Mileage b.mileage)) e (inv.decided b q).0) in
           cc
 
 -- ---- more messages sent, more mileages proposed
 
 module _ (c : Setup) {X Y : Message → Type 0} (up : (m : Message) → X m → Y m) {A C : ℕ → Type 0} (more : (v : ℕ) → A v → C v) where
-  pub backed-up : (m : Message) → Backed c X A m → Backed c Y C m
-  backed-up m b =
+  pub backed_up : (m : Message) → Backed c X A m → Backed c Y C m
+  backed_up m b =
       record {
-        proposal = sure-up c up more m.round m.proposal b.proposal;
-        estimate = of-map (λ v s. sure-up c up more m.round (Mileage v) s) m.estimate b.estimate;
-        checked = λ k g. of-map (λ v a. quorum-up c up a) m.estimate (b.checked k g);
+        proposal = sure_up c up more m.round m.proposal b.proposal;
+        estimate = of_map (λ v s. sure_up c up more m.round (Mileage v) s) m.estimate b.estimate;
+        checked = λ k g. of_map (λ v a. quorum_up c up a) m.estimate (b.checked k g);
       }
 
-  pub fair-up : (x : U.Unit) → Fair c X A x → Fair c Y C x
-  fair-up x f =
+  pub fair_up : (x : U.Unit) → Fair c X A x → Fair c Y C x
+  fair_up x f =
       record {
-        logged = sure-up c up more x.logged.round x.logged.proposal f.logged;
-        current = sure-up c up more x.current.round x.current.proposal f.current;
-        checks = λ s h. vote-up c up (f.checks s h);
-        seconds = λ s h. vote-up c up (f.seconds s h);
+        logged = sure_up c up more x.logged.round x.logged.proposal f.logged;
+        current = sure_up c up more x.current.round x.current.proposal f.current;
+        checks = λ s h. vote_up c up (f.checks s h);
+        seconds = λ s h. vote_up c up (f.seconds s h);
       }

@@ -5,47 +5,48 @@ use mathlib.Core.List.{List, [], ◌∷◌, map}
 use lib.Count.{ones}
 use lib.ListN.{replicate, get_elem?}
 use mathlib.Core.Option.{some}
-use Rattle.tally.specs.Count.{upTo}
-use Rattle.tally.specs.Limits.{today, logSize, imageSize, messageSize}
+use Rattle.tally.specs.Count.{up_to}
+use Rattle.tally.specs.Limits.{today, log_size, image_size, message_size}
 use Rattle.tally.specs.declared.Engine.TheVariants.{B, R}
-use Rattle.tally.specs.Gathered.{holders, allHold, common, firstPassing, leads, majority}
-use Rattle.tally.specs.Tally.{noMarks, mark, gatheredFrom, gathered}
-use Rattle.contents.specs.Estimates.{mileageOrBlank, mileageOrSplit, secondEstimateOk, sameMileage}
-use Rattle.contents.specs.Logs.{stateOk, logOk}
-use Rattle.contents.specs.Images.{every, cellOk, cellsOk, tallyOk, checksAllowed, imageOk, sameSettings, stateFits, fits}
-use Rattle.contents.specs.Messages.{firstOk, checkOk, secondOk, skipOk, kindOk, messageOk}
-use Rattle.formats.specs.Numbers.{numAt, bytesOf}
-use Rattle.formats.specs.Logs.{readLog}
-use Rattle.formats.specs.Messages.{readMessage, cleared}
-use Rattle.formats.specs.Images.{readImage, imageBytes}
-use Rattle.consensus.specs.Conditions.{firstOf}
-use Rattle.consensus.specs.Units.{atLog, downUnit}
-use Rattle.consensus.specs.Step.{says, logWrite, atRound, fresh, recovered, sendFirst, proposed, takeFirst, onFirst, isFull, takeSecond, countCheck, checksWith}
-use Rattle.consensus.specs.Step.{onCheck, nextProposal, close, countSecond, secondsWith, onSecond, onKind, skip, caughtUp, received}
-use Rattle.consensus.specs.Methods.{forOther, outOfRange, closesLast, unless, proposeConditions, propose, deliverConditions, deliver, keyOn}
-use Rattle.calls.specs.Calls.{unitLengths, badLog, badSettings, badImage, badMessage, logBytes, messageBytes, startCallConditions, startCall}
-use Rattle.calls.specs.Calls.{keyOnCallConditions, keyOnCall, proposeCallConditions, proposeCall, deliverCallConditions, deliverCall}
-use Rattle.calls.proofs.Examples.{mileage, blank, log, unmarked, message, junk, F, C, S, K, B as letterB, R as letterR}
-use Rattle.agreement.specs.Bytes.{startOf, ByteWorld, up, Event, proposal, delivery, cut, off, on, begun, after, afterProposal, afterCut, afterKeyOn}
-use Rattle.agreement.specs.Bytes.{proposalOf, delivering, keyOnOf, step}
+use Rattle.tally.specs.Gathered.{holders, all_hold, common, first_passing, leads, majority}
+use Rattle.tally.specs.Tally.{no_marks, mark, gathered_from, gathered}
+use Rattle.contents.specs.Estimates.{mileage_or_blank, mileage_or_split, second_estimate_ok, same_mileage}
+use Rattle.contents.specs.Logs.{state_ok, log_ok}
+use Rattle.contents.specs.Images.{every, cell_ok, cells_ok, tally_ok, checks_allowed, image_ok, same_settings, state_fits, fits}
+use Rattle.contents.specs.Messages.{first_ok, check_ok, second_ok, skip_ok, kind_ok, message_ok}
+use Rattle.formats.specs.Numbers.{num_at, bytes_of}
+use Rattle.formats.specs.Logs.{read_log}
+use Rattle.formats.specs.Messages.{read_message, cleared}
+use Rattle.formats.specs.Images.{read_image, image_bytes}
+use Rattle.consensus.specs.Conditions.{first_refusal}
+use Rattle.consensus.specs.Units.{at_log, down_unit}
+use Rattle.consensus.specs.Step.{says, log_write, at_round, fresh, recovered, send_first, proposed, take_first, on_first, is_full, take_second, count_check}
+use Rattle.consensus.specs.Step.{checks_with}
+use Rattle.consensus.specs.Step.{on_check, next_proposal, close, count_second, seconds_with, on_second, on_kind, skip, caught_up, received}
+use Rattle.consensus.specs.Methods.{for_other, out_of_range, closes_last, unless, propose_conditions, propose, deliver_conditions, deliver, key_on}
+use Rattle.calls.specs.Calls.{unit_lengths, bad_log, bad_settings, bad_image, bad_message, log_bytes, message_bytes, start_call_conditions, start_call}
+use Rattle.calls.specs.Calls.{key_on_call_conditions, key_on_call, propose_call_conditions, propose_call, deliver_call_conditions, deliver_call}
+use Rattle.calls.proofs.Examples.{mileage, blank, log, unmarked, message, junk, F, C, S, K, B as letter_b, R as letter_r}
+use Rattle.agreement.specs.Bytes.{start_of, ByteWorld, up, Event, proposal, delivery, cut, off, on, begun, after, after_proposal, after_cut, after_key_on}
+use Rattle.agreement.specs.Bytes.{proposal_of, delivering, key_on_of, step}
 use Rattle.agreement.specs.Worlds.{Setup, run}
 
 -- buffers that held other bytes before
 abbrev out : List ℕ
-out = junk (messageSize today)
+out = junk (message_size today)
 
 abbrev on' : ℕ → Event
-on' u = on u (junk (imageSize today))
+on' u = on u (junk (image_size today))
 
 abbrev logs : ℕ → List ℕ
-logs u = junk (logSize today)
+logs u = junk (log_size today)
 
 abbrev images : ℕ → List ℕ
-images u = junk (imageSize today)
+images u = junk (image_size today)
 
 -- the numbers of the starts, and the world after the events
 abbrev starts : Setup → List ℕ
-starts c = map (λ u. (startOf today c logs images u).number) (upTo c.n)
+starts c = map (λ u. (start_of today c logs images u).number) (up_to c.n)
 
 abbrev after' : Setup → List Event → ByteWorld
 after' c es = run (step today c.n) (begun today c logs images) es
@@ -79,26 +80,26 @@ abbrev m : List ℕ
 m = mileage 412077
 
 -- the log of unit 0, with the second estimate that the cut delivery wrote
-abbrev log-0 : List ℕ
-log-0 = log letterB 3 0 0 m m m
+abbrev log_0 : List ℕ
+log_0 = log letter_b 3 0 0 m m m
 
 -- five messages, F, C, C, S, S, of which the cut sent none; a decision by unit 2 in round 0; unit 0 up again, with its log's image
 pub record OfListing (w : ByteWorld) : Type 0 where
   pub sent : w.sent
-      ≡ message F letterB 3 0 255 0 m m
-      ∷ message C letterB 3 0 255 0 m m
-      ∷ message C letterB 3 1 255 0 m m
-      ∷ message S letterB 3 1 255 0 m blank
-      ∷ message S letterB 3 2 255 0 m blank
+      ≡ message F letter_b 3 0 255 0 m m
+      ∷ message C letter_b 3 0 255 0 m m
+      ∷ message C letter_b 3 1 255 0 m m
+      ∷ message S letter_b 3 1 255 0 m blank
+      ∷ message S letter_b 3 2 255 0 m blank
       ∷ []
   pub proposed : w.proposed ≡ record { unit = 0; mileage = 412077 } ∷ []
   pub decided : w.decided ≡ record { unit = 2; round = 0; mileage = 412077 } ∷ []
-  pub unit-0 : w.units 0 ≡ up log-0 (unmarked log-0)
+  pub unit_0 : w.units 0 ≡ up log_0 (unmarked log_0)
 
 -- ---- R: SECONDs 5, 5, 9 make 5 the majority of round 0; round 1, which units 0 to 2 catch up with, decides it; an old SECOND is answered by SKIP
 
-abbrev of-r : List Event
-of-r =
+abbrev of_r : List Event
+of_r =
     proposal 0 5 out
     ∷ proposal 1 9 out
     ∷ delivery 0 0 out
@@ -123,24 +124,25 @@ pub record Majority (w : ByteWorld) : Type 0 where
   pub proposed : w.proposed ≡ record { unit = 0; mileage = 5 } ∷ record { unit = 1; mileage = 9 } ∷ record { unit = 3; mileage = 7 } ∷ []
   pub decided : w.decided ≡ record { unit = 3; round = 1; mileage = 5 } ∷ []
   -- FIRST of round 1 with the majority, and the SKIP to unit 2
-  pub first : get_elem? w.sent 5 ≡ some (message F letterR 4 3 255 1 (mileage 5) (mileage 5))
-  pub skip : get_elem? w.sent 9 ≡ some (message K letterR 4 3 2 1 blank (mileage 5))
+  pub first : get_elem? w.sent 5 ≡ some (message F letter_r 4 3 255 1 (mileage 5) (mileage 5))
+  pub skip : get_elem? w.sent 9 ≡ some (message K letter_r 4 3 2 1 blank (mileage 5))
 
 -- ---- both
 
 -- all starts are accepted
-pub computed : (starts of3 ≡ replicate 3 0) × (OfListing (after' of3 listing) × ((starts of4 ≡ replicate 4 0) × Majority (after' of4 of-r)))
-unfolding ones holders allHold common firstPassing leads majority noMarks mark gatheredFrom gathered
-    mileageOrBlank mileageOrSplit secondEstimateOk sameMileage stateOk logOk every cellOk cellsOk tallyOk checksAllowed imageOk sameSettings stateFits fits
-    firstOk checkOk secondOk skipOk kindOk messageOk numAt bytesOf readLog readMessage cleared readImage imageBytes firstOf atLog downUnit says logWrite
-    atRound fresh recovered sendFirst proposed takeFirst onFirst isFull takeSecond countCheck checksWith onCheck nextProposal close countSecond
-    secondsWith onSecond onKind skip caughtUp received forOther outOfRange closesLast unless proposeConditions propose deliverConditions deliver keyOn
-    unitLengths badLog badSettings badImage badMessage logBytes messageBytes startCallConditions startCall keyOnCallConditions keyOnCall proposeCallConditions
-    proposeCall deliverCallConditions deliverCall run begun after afterProposal afterCut afterKeyOn proposalOf delivering keyOnOf step
+pub computed : (starts of3 ≡ replicate 3 0) × (OfListing (after' of3 listing) × ((starts of4 ≡ replicate 4 0) × Majority (after' of4 of_r)))
+unfolding ones holders all_hold common first_passing leads majority no_marks mark gathered_from gathered
+    mileage_or_blank mileage_or_split second_estimate_ok same_mileage state_ok log_ok every cell_ok cells_ok tally_ok checks_allowed image_ok same_settings
+    state_fits fits first_ok check_ok second_ok skip_ok kind_ok message_ok num_at bytes_of read_log read_message cleared read_image image_bytes first_refusal
+    at_log down_unit says log_write at_round fresh recovered send_first proposed take_first on_first is_full take_second count_check checks_with on_check
+    next_proposal close count_second seconds_with on_second on_kind skip caught_up received for_other out_of_range closes_last unless propose_conditions propose
+    deliver_conditions deliver key_on unit_lengths bad_log bad_settings bad_image bad_message log_bytes message_bytes start_call_conditions start_call
+    key_on_call_conditions key_on_call propose_call_conditions propose_call deliver_call_conditions deliver_call run begun after after_proposal after_cut
+    after_key_on proposal_of delivering key_on_of step
 computed = (
   refl,
   (
-    record { sent = refl; proposed = refl; decided = refl; unit-0 = refl },
+    record { sent = refl; proposed = refl; decided = refl; unit_0 = refl },
     (refl, record { proposed = refl; decided = refl; first = refl; skip = refl }),
   ),
 )

@@ -3,7 +3,7 @@ use Rattle.std.specs.Prelude.{ℕ, ◌≤◌, ◌<◌, ◌≡◌, Bool, true, co
 use mathlib.Core.List.{List, [], ◌∷◌, ◌++◌, Memᴰ}
 use Rattle.std.proofs.Math.Option.{Option, none, some}
 use Rattle.tally.specs.Count.{count}
-use Rattle.tally.specs.Quorum.{quorumOf}
+use Rattle.tally.specs.Quorum.{quorum_of}
 use Rattle.tally.specs.declared.Engine.{Engine}
 use Rattle.tally.specs.declared.Estimate.{Estimate}
 use Rattle.tally.specs.declared.Estimate.TheVariants.{Blank, Split, Mileage}
@@ -18,8 +18,8 @@ pub record Setup : Type 0 where
   pub n : ℕ
   pub entry : ℕ
 
-abbrev pub settingsOf : Setup → ℕ → Settings
-settingsOf c u = record { engine = c.engine; n = c.n; unit = u; entry = c.entry }
+abbrev pub settings_of : Setup → ℕ → Settings
+settings_of c u = record { engine = c.engine; n = c.n; unit = u; entry = c.entry }
 
 -- an accepted proposal event
 pub record Proposal : Type 0 where
@@ -126,7 +126,7 @@ pub record Agreed {U M E : Type 0} (c : Setup) (view : View U M) (step : World U
   pub images : (before after : List E) → es ≡ before ++ after → (u : ℕ) → u < c.n → (s : State) → view.HasImage ((run step w before).units u) s
       → (d : Decision) → Reported step w es d → Locked d s
   -- of every unit these two speak: its log is read, and while it is up its image
-  pub logs-read : (u : ℕ) → u < c.n → (s : State) × view.HasLog ((run step w es).units u) s
-  pub images-read : (u : ℕ) → u < c.n → view.IsUp ((run step w es).units u) → (s : State) × view.HasImage ((run step w es).units u) s
+  pub logs_read : (u : ℕ) → u < c.n → (s : State) × view.HasLog ((run step w es).units u) s
+  pub images_read : (u : ℕ) → u < c.n → view.IsUp ((run step w es).units u) → (s : State) × view.HasImage ((run step w es).units u) s
   -- a decision's round is the one whose SECONDs agreed: a quorum of units has sent them
-  pub seconded : (d : Decision) → Reported step w es d → Many c.n (quorumOf c.engine c.n) (Seconded view (run step w es) d)
+  pub seconded : (d : Decision) → Reported step w es d → Many c.n (quorum_of c.engine c.n) (Seconded view (run step w es) d)

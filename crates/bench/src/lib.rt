@@ -5,13 +5,13 @@ mod lines;
 mod turns;
 
 ghost use Rattle.std.specs.Prelude.{◌≤◌, ◌≡◌, true, ◌++◌, length};
-ghost use Rattle.tally.specs.Limits.{today, scriptSize};
+ghost use Rattle.tally.specs.Limits.{today, script_size};
 ghost use Rattle.bench_play.specs.Bench.{start};
-ghost use Rattle.script.specs.Script.{inRanges};
+ghost use Rattle.script.specs.Script.{in_ranges};
 ghost use Rattle.bench_text.specs.InnerText.{Puts};
-ghost use Rattle.bench.specs.Listing.{headerLine, malformedText, listing, printed, listingCall};
-ghost use Rattle.bench.specs.InnerLines.{eventsFrom, restText};
-ghost use Rattle.bench.specs.Widths.{maxListing};
+ghost use Rattle.bench.specs.Listing.{header_line, malformed_text, listing, printed, listing_call};
+ghost use Rattle.bench.specs.InnerLines.{events_from, rest_text};
+ghost use Rattle.bench.specs.Widths.{max_listing};
 
 use bench_script::{headers, parts};
 use script::{Header, HeaderRead};
@@ -36,8 +36,8 @@ pub struct Written {
 
 // What a malformed header prints.
 fn put_malformed(out: &mut [u8]) -> usize
-    requires { maxListing ≤ length out.old }
-    ensures { Puts out.old 0 malformedText out.new result }
+    requires { max_listing ≤ length out.old }
+    ensures { Puts out.old 0 malformed_text out.new result }
 {
     let p = bench_text::put_line(out, 0, lines::malformed_line());
     bench_text::put_end(out, p, 0, 0)
@@ -46,10 +46,10 @@ fn put_malformed(out: &mut [u8]) -> usize
 // The header's line, and those of the events from byte p on.
 fn put_played(script: &[u8], p: usize, h: Header, out: &mut [u8]) -> usize
     requires p_in_bounds { p ≤ length script.now }
-    requires script_len_bound { length script.now ≤ scriptSize }
-    requires h_value { inRanges h.n h.entry ≡ true }
-    requires max_listing_in_bounds { maxListing ≤ length out.old }
-    ensures { Puts out.old 0 (headerLine h ++ restText today (start h) 0 (eventsFrom h.n script.now p))
+    requires script_len_bound { length script.now ≤ script_size }
+    requires h_value { in_ranges h.n h.entry ≡ true }
+    requires max_listing_in_bounds { max_listing ≤ length out.old }
+    ensures { Puts out.old 0 (header_line h ++ rest_text today (start h) 0 (events_from h.n script.now p))
         out.new result }
 {
     let engine = h.engine;
@@ -59,7 +59,7 @@ fn put_played(script: &[u8], p: usize, h: Header, out: &mut [u8]) -> usize
 
 // The whole listing.
 fn put_listing(script: &[u8], out: &mut [u8]) -> usize
-    requires { maxListing ≤ length out.old }
+    requires { max_listing ≤ length out.old }
     ensures { Puts out.old 0 (listing today script.now) out.new result }
 {
     if limits::SCRIPT_SIZE < script.len() {
@@ -77,15 +77,15 @@ fn put_listing(script: &[u8], out: &mut [u8]) -> usize
 
 // Room for any listing. Its contract gives the length alone, so that a caller's proof does not compute the array.
 pub fn page() -> [u8; MAX_LISTING]
-    ensures { maxListing ≡ length result }
+    ensures { max_listing ≡ length result }
 {
     [0; MAX_LISTING]
 }
 
 // The listing of a script, in a buffer that must have room for any listing; the bytes past the listing stay.
-#[tactic(auto, unfolding(crate::specs::Listing::listingCall))]
+#[tactic(auto, unfolding(crate::specs::Listing::listing_call))]
 pub fn print(script: &[u8], out: &mut [u8]) -> Written
-    ensures { printed result.number result.length out.new ≡ listingCall today script.now out.old }
+    ensures { printed result.number result.length out.new ≡ listing_call today script.now out.old }
 {
     if out.len() < MAX_LISTING {
         return Written {

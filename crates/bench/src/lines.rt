@@ -1,6 +1,6 @@
 // An event's line.
 ghost use Rattle.std.specs.Prelude.{◌≡◌};
-ghost use Rattle.bench.specs.Listing.{unitShown, sentShown, decisionShown, lineWith, malformedLine};
+ghost use Rattle.bench.specs.Listing.{unit_shown, sent_shown, decision_shown, line_with, malformed_line};
 
 use bench_play::Sent;
 use bench_script::events;
@@ -10,7 +10,7 @@ use script::ScriptEvent;
 use tally::{Estimate, Refusal};
 
 fn unit_shown(e: ScriptEvent) -> Shown
-    ensures { result ≡ unitShown e }
+    ensures { result ≡ unit_shown e }
 {
     match e {
         ScriptEvent::Malformed => Shown::Dash,
@@ -23,7 +23,7 @@ fn unit_shown(e: ScriptEvent) -> Shown
 }
 
 fn sent_shown(s: Sent) -> Shown
-    ensures { result ≡ sentShown s }
+    ensures { result ≡ sent_shown s }
 {
     match s {
         Sent::Nothing => Shown::Dash,
@@ -32,7 +32,7 @@ fn sent_shown(s: Sent) -> Shown
 }
 
 fn decision_shown(d: Estimate) -> Shown
-    ensures { result ≡ decisionShown d }
+    ensures { result ≡ decision_shown d }
 {
     match d {
         Estimate::Blank => Shown::Dash,
@@ -42,9 +42,9 @@ fn decision_shown(d: Estimate) -> Shown
 }
 
 // The line of an event and what came of it.
-#[tactic(auto, unfolding(crate::specs::Listing::lineWith))]
+#[tactic(auto, unfolding(crate::specs::Listing::line_with))]
 pub(crate) fn listing_line(index: u32, e: ScriptEvent, outcome: LineOutcome) -> ListingLine
-    ensures { result ≡ lineWith index e outcome.refusal outcome.sent outcome.decision }
+    ensures { result ≡ line_with index e outcome.refusal outcome.sent outcome.decision }
 {
     let refusal = outcome.refusal;
     let sent = outcome.sent;
@@ -60,9 +60,9 @@ pub(crate) fn listing_line(index: u32, e: ScriptEvent, outcome: LineOutcome) -> 
 }
 
 // The line of a malformed header.
-#[tactic(auto, unfolding(crate::specs::Listing::malformedLine))]
+#[tactic(auto, unfolding(crate::specs::Listing::malformed_line))]
 pub(crate) fn malformed_line() -> ListingLine
-    ensures { result ≡ malformedLine 0 }
+    ensures { result ≡ malformed_line 0 }
 {
     ListingLine {
         index: 0,

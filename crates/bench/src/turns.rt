@@ -1,9 +1,9 @@
 // A script's event lines, one after the other.
 ghost use Rattle.std.specs.Prelude.{◌+◌, ◌≤◌, ◌<◌, length};
-ghost use Rattle.tally.specs.Limits.{today, scriptSize, senders};
+ghost use Rattle.tally.specs.Limits.{today, script_size, senders};
 ghost use Rattle.bench_play.specs.Bench.{start};
 ghost use Rattle.bench_text.specs.InnerText.{Puts};
-ghost use Rattle.bench.specs.InnerLines.{eventsFrom, restText, LineAt};
+ghost use Rattle.bench.specs.InnerLines.{events_from, rest_text, LineAt};
 
 use super::lines;
 use bench_script::{events, parts};
@@ -45,11 +45,11 @@ pub(crate) fn put_events(
     begin: usize,
 ) -> usize
     requires from_in_bounds { from ≤ length script.now }
-    requires script_len_bound { length script.now ≤ scriptSize }
+    requires script_len_bound { length script.now ≤ script_size }
     requires n_nonzero { 0 < h.n }
     requires n_le_senders { h.n ≤ senders }
-    requires from_in_bounds_2 { begin + length (restText today (start h) 0 (eventsFrom h.n script.now from)) ≤ length out.old }
-    ensures { Puts out.old begin (restText today (start h) 0 (eventsFrom h.n script.now from)) out.new result }
+    requires from_in_bounds_2 { begin + length (rest_text today (start h) 0 (events_from h.n script.now from)) ≤ length out.old }
+    ensures { Puts out.old begin (rest_text today (start h) 0 (events_from h.n script.now from)) out.new result }
 {
     let mut b = bench_turns::start(h);
     let mut p = from;

@@ -5,25 +5,25 @@ use mathlib.Core.Bool.{Bool, true, false, cond}
 use mathlib.Core.List.{List, [], ◌∷◌, ◌++◌, map, Memᴰ}
 use borrow.Author.Tests.{eqb-true}
 use Rattle.tally.specs.Limits.{Limits}
-use Rattle.tally.specs.Refusal.{numberOf}
+use Rattle.tally.specs.Refusal.{number_of}
 use Rattle.tally.specs.declared.Estimate.TheVariants.{Mileage}
 use Rattle.agreement.specs.Contents as C
 use Rattle.agreement.specs.Worlds.{Proposal, Decision, run, Given}
-use Rattle.agreement.proofs.History.{Inv, decided-given, step-proposed}
+use Rattle.agreement.proofs.History.{Inv, decided_given, step_proposed}
 use Rattle.agreement.proofs.Invariant.{agreement}
-use Rattle.script.specs.Script.{eventUnit, inRanges}
+use Rattle.script.specs.Script.{event_unit, in_ranges}
 use Rattle.script.specs.declared.ScriptEvent.{ScriptEvent}
 use Rattle.script.specs.declared.Header.{Header}
 use Rattle.bench_play.specs.Bench.{start}
-use Rattle.bench_play.specs.Play.{Played, answer, play, benchAfter}
+use Rattle.bench_play.specs.Play.{Played, answer, play, bench_after}
 use Rattle.bench_play.specs.declared.Bench.{Bench}
 use Rattle.bench_history.specs.Covered.{ProposedIn}
-use Rattle.bench_history.specs.History.{setupOf, Below, lineAccepted, ofAccepted, contentsEvent, eventProposals, proposals}
-use Rattle.bench_history.specs.History.{ShownDecision, decidedOf, decisions, withoutRound, Shows, contentsAfter}
-use Rattle.bench_history.proofs.Lists.{flat-in, flat-from}
-use Rattle.bench_play.proofs.PlayedLines.{played, reached-sized}
-use Rattle.bench_history.proofs.Lines.{below-parts}
-use Rattle.bench_history.proofs.Simulation.{line-shows, units-high, simulated, after-inv}
+use Rattle.bench_history.specs.History.{setup_of, Below, line_accepted, of_accepted, contents_event, event_proposals, proposals}
+use Rattle.bench_history.specs.History.{ShownDecision, decided_of, decisions, without_round, Shows, contents_after}
+use Rattle.bench_history.proofs.Lists.{flat_in, flat_from}
+use Rattle.bench_play.proofs.PlayedLines.{played, reached_sized}
+use Rattle.bench_history.proofs.Lines.{below_parts}
+use Rattle.bench_history.proofs.Simulation.{line_shows, units_high, simulated, after_inv}
 
 -- ---- lines and the world
 
@@ -32,22 +32,22 @@ abbrev DecidedIn : ℕ → C.ContentsWorld → Type 0
 DecidedIn v w = (d : Decision) × (Memᴰ d w.decided × (d.mileage ≡ v))
 
 -- a decision shown is one of the world's
-shown-decided : (n : ℕ) (b : Bench) (lines : List Played) (w : C.ContentsWorld) → Shows n b lines w → (p : Played) → Memᴰ p lines → (v : ℕ)
+shown_decided : (n : ℕ) (b : Bench) (lines : List Played) (w : C.ContentsWorld) → Shows n b lines w → (p : Played) → Memᴰ p lines → (v : ℕ)
     → p.answer.decision ≡ Mileage v → DecidedIn v w
 unfolding decisions
-shown-decided n b lines w shows p here v e =
-    let shown : Memᴰ (record { unit = eventUnit p.event; mileage = v }) (map withoutRound w.decided) =
-    rw shows.decided (flat-in (λ (q : Played). decidedOf (eventUnit q.event) q.answer.decision) lines here (rw e (mathlib.Core.List.Memᴰ.head refl))) in
-    let d = mathlib.Core.List.Memᴰ.of_map withoutRound w.decided shown in
+shown_decided n b lines w shows p here v e =
+    let shown : Memᴰ (record { unit = event_unit p.event; mileage = v }) (map without_round w.decided) =
+    rw shows.decided (flat_in (λ (q : Played). decided_of (event_unit q.event) q.answer.decision) lines here (rw e (mathlib.Core.List.Memᴰ.head refl))) in
+    let d = mathlib.Core.List.Memᴰ.of_map without_round w.decided shown in
     (d.0, (d.1, ap (λ (x : ShownDecision). x.mileage) d.2))
 
 -- a proposal of the world is on an accepted line
-of-proposal : (p : Played) (q : Proposal) → Memᴰ q (ofAccepted eventProposals p)
-    → (p.event ≡ ScriptEvent.Propose q.unit q.mileage) × (numberOf p.answer.refusal ≡ 0)
-of-proposal p q = go (lineAccepted p.answer) refl p.event
+of_proposal : (p : Played) (q : Proposal) → Memᴰ q (of_accepted event_proposals p)
+    → (p.event ≡ ScriptEvent.Propose q.unit q.mileage) × (number_of p.answer.refusal ≡ 0)
+of_proposal p q = go (line_accepted p.answer) refl p.event
   where
-    go : (t : Bool) → lineAccepted p.answer ≡ t → (e : ScriptEvent) → Memᴰ q (cond t (eventProposals e) [])
-        → (e ≡ ScriptEvent.Propose q.unit q.mileage) × (numberOf p.answer.refusal ≡ 0)
+    go : (t : Bool) → line_accepted p.answer ≡ t → (e : ScriptEvent) → Memᴰ q (cond t (event_proposals e) [])
+        → (e ≡ ScriptEvent.Propose q.unit q.mileage) × (number_of p.answer.refusal ≡ 0)
     go true ok (ScriptEvent.Propose u v) h =
         let same = mathlib.Core.List.Memᴰ.eq_of_singleton h in
         (rw same, eqb-true _ _ ok)
@@ -58,18 +58,18 @@ of-proposal p q = go (lineAccepted p.answer) refl p.event
     go true ok (ScriptEvent.KeyOn u) h = absurd (mathlib.Core.List.Memᴰ.not-nil h)
     go false off e h = absurd (mathlib.Core.List.Memᴰ.not-nil h)
 
-given-line : (n : ℕ) (b : Bench) (lines : List Played) (w : C.ContentsWorld) → Shows n b lines w → (v : ℕ) → Given v w → ProposedIn v lines
+given_line : (n : ℕ) (b : Bench) (lines : List Played) (w : C.ContentsWorld) → Shows n b lines w → (v : ℕ) → Given v w → ProposedIn v lines
 unfolding proposals
-given-line n b lines w shows v g =
-    let r = flat-from (ofAccepted eventProposals) lines (rw shows.proposed at g.there) in
-    let q = of-proposal r.0 _ r.1.1 in
+given_line n b lines w shows v g =
+    let r = flat_from (of_accepted event_proposals) lines (rw shows.proposed at g.there) in
+    let q = of_proposal r.0 _ r.1.1 in
     record { line = r.0; there = r.1.0; by = g.by; event = q.0; accepted = q.1 }
 
 -- a line is at most one event
-one-event : (P : List C.ContentsEvent → Type 0) → P [] → ((x : C.ContentsEvent) → P (x ∷ [])) → (p : Played) → P (ofAccepted contentsEvent p)
-one-event P none one p = go (lineAccepted p.answer) p.event
+one_event : (P : List C.ContentsEvent → Type 0) → P [] → ((x : C.ContentsEvent) → P (x ∷ [])) → (p : Played) → P (of_accepted contents_event p)
+one_event P none one p = go (line_accepted p.answer) p.event
   where
-    go : (t : Bool) (e : ScriptEvent) → P (cond t (contentsEvent e) [])
+    go : (t : Bool) (e : ScriptEvent) → P (cond t (contents_event e) [])
     go true ScriptEvent.Malformed = none
     go true (ScriptEvent.Propose u v) = one _
     go true (ScriptEvent.Deliver u k) = one _
@@ -80,39 +80,39 @@ one-event P none one p = go (lineAccepted p.answer) p.event
 
 -- ---- the script
 
-module _ (l : Limits) (h : Header) (range : inRanges h.n h.entry ≡ true) (es : List ScriptEvent) (below : Below h.n es) where
-  pub decisions-same : (p q : Played) → Memᴰ p (play l (start h) es) → Memᴰ q (play l (start h) es)
+module _ (l : Limits) (h : Header) (range : in_ranges h.n h.entry ≡ true) (es : List ScriptEvent) (below : Below h.n es) where
+  pub decisions_same : (p q : Played) → Memᴰ p (play l (start h) es) → Memᴰ q (play l (start h) es)
       → (v w : ℕ) → p.answer.decision ≡ Mileage v → q.answer.decision ≡ Mileage w → v ≡ w
-  decisions-same p q i j v w e f =
+  decisions_same p q i j v w e f =
       let shows = simulated h range l es below in
-      let a = shown-decided h.n _ _ _ shows p i v e in
-      let d = shown-decided h.n _ _ _ shows q j w f in
-      sym a.1.1 ∙ agreement l (setupOf h) _ _ _ _ (after-inv h range l es below) a.0 d.0 a.1.0 d.1.0 ∙ d.1.1
+      let a = shown_decided h.n _ _ _ shows p i v e in
+      let d = shown_decided h.n _ _ _ shows q j w f in
+      sym a.1.1 ∙ agreement l (setup_of h) _ _ _ _ (after_inv h range l es below) a.0 d.0 a.1.0 d.1.0 ∙ d.1.1
 
   -- of the last line: what it decides was given before it
-  decided-before : (e : ScriptEvent) → eventUnit e < h.n → (v : ℕ) → (answer l (benchAfter l (start h) es) e).decision ≡ Mileage v
-      → Given v (contentsAfter l h es)
+  decided_before : (e : ScriptEvent) → event_unit e < h.n → (v : ℕ) → (answer l (bench_after l (start h) es) e).decision ≡ Mileage v
+      → Given v (contents_after l h es)
   unfolding run
-  decided-before e at v decides =
-      let p = played e (answer l (benchAfter l (start h) es) e) in
-      let after = line-shows l h.n (units-high h range) (benchAfter l (start h) es) (reached-sized h l es) (play l (start h) es) (contentsAfter l h es)
+  decided_before e at v decides =
+      let p = played e (answer l (bench_after l (start h) es) e) in
+      let after = line_shows l h.n (units_high h range) (bench_after l (start h) es) (reached_sized h l es) (play l (start h) es) (contents_after l h es)
       (simulated h range l es below) e at in
-      let d = shown-decided h.n _ _ _ after p (mathlib.Core.List.Memᴰ.append_right (play l (start h) es) (mathlib.Core.List.Memᴰ.head refl)) v decides in
-      subst (λ k. Given k (contentsAfter l h es)) d.1.1
-      (one-event (λ xs. Memᴰ d.0 (run (C.step l h.n) (contentsAfter l h es) xs).decided → Given d.0.mileage (contentsAfter l h es))
-      (decided-given l (setupOf h) (contentsAfter l h es) inv d.0)
-      (λ x. step-proposed l (setupOf h) (contentsAfter l h es) x inv d.0) p d.1.0)
+      let d = shown_decided h.n _ _ _ after p (mathlib.Core.List.Memᴰ.append_right (play l (start h) es) (mathlib.Core.List.Memᴰ.head refl)) v decides in
+      subst (λ k. Given k (contents_after l h es)) d.1.1
+      (one_event (λ xs. Memᴰ d.0 (run (C.step l h.n) (contents_after l h es) xs).decided → Given d.0.mileage (contents_after l h es))
+      (decided_given l (setup_of h) (contents_after l h es) inv d.0)
+      (λ x. step_proposed l (setup_of h) (contents_after l h es) x inv d.0) p d.1.0)
     where
-      inv : Inv l (setupOf h) (contentsAfter l h es)
-      inv = after-inv h range l es below
+      inv : Inv l (setup_of h) (contents_after l h es)
+      inv = after_inv h range l es below
 
-  pub decided-proposed : (e : ScriptEvent) → eventUnit e < h.n → (v : ℕ) → (answer l (benchAfter l (start h) es) e).decision ≡ Mileage v
+  pub decided_proposed : (e : ScriptEvent) → event_unit e < h.n → (v : ℕ) → (answer l (bench_after l (start h) es) e).decision ≡ Mileage v
       → ProposedIn v (play l (start h) es)
-  decided-proposed e at v decides = given-line h.n _ _ _ (simulated h range l es below) v (decided-before e at v decides)
+  decided_proposed e at v decides = given_line h.n _ _ _ (simulated h range l es below) v (decided_before e at v decides)
 
-pub decision-proposed : (l : Limits) (h : Header) → inRanges h.n h.entry ≡ true → (es : List ScriptEvent) → Below h.n es
+pub decision_proposed : (l : Limits) (h : Header) → in_ranges h.n h.entry ≡ true → (es : List ScriptEvent) → Below h.n es
     → (before after : List ScriptEvent) (e : ScriptEvent) → es ≡ before ++ (e ∷ after) → (v : ℕ)
-    → (answer l (benchAfter l (start h) before) e).decision ≡ Mileage v → ProposedIn v (play l (start h) before)
-decision-proposed l h range es below before after e split v decides =
-    let parts = below-parts h.n before e after (subst (Below h.n) split below) in
-    decided-proposed l h range before parts.0 e parts.1 v decides
+    → (answer l (bench_after l (start h) before) e).decision ≡ Mileage v → ProposedIn v (play l (start h) before)
+decision_proposed l h range es below before after e split v decides =
+    let parts = below_parts h.n before e after (subst (Below h.n) split below) in
+    decided_proposed l h range before parts.0 e parts.1 v decides

@@ -7,24 +7,24 @@ use native.Mathlib.Omega.{arith}
 use lib.Dec.{eqb}
 use borrow.Author.Tests.{eqb-true, leb-false, not-true}
 use Rattle.tally.specs.Limits.{Limits, places}
-use Rattle.tally.specs.Refusal.{numberOf}
+use Rattle.tally.specs.Refusal.{number_of}
 use Rattle.tally.specs.declared.Refusal.{Refusal}
-use Rattle.contents.specs.Messages.{messageOk}
-use Rattle.consensus.specs.Methods.{unless, refuses, closesLast, proposeConditions, propose, deliverConditions, deliver, keyOff, keyOn}
-use Rattle.consensus.specs.Conditions.{Condition, firstOf}
+use Rattle.contents.specs.Messages.{message_ok}
+use Rattle.consensus.specs.Methods.{unless, refuses, closes_last, propose_conditions, propose, deliver_conditions, deliver, key_off, key_on}
+use Rattle.consensus.specs.Conditions.{Condition, first_refusal}
 use Rattle.consensus.specs.Step.{proposed, received}
 use Rattle.consensus.specs.declared.Answer.{Answer}
 use Rattle.consensus.specs.declared.Unit as U
-use Rattle.consensus.proofs.Answers.{plain-proposed, plain-received}
-use Rattle.consensus.proofs.Order.{first-lowest}
-use Rattle.script.specs.Script.{eventUnit}
+use Rattle.consensus.proofs.Answers.{plain_proposed, plain_received}
+use Rattle.consensus.proofs.Order.{first_lowest}
+use Rattle.script.specs.Script.{event_unit}
 use Rattle.script.specs.declared.ScriptEvent.{ScriptEvent}
-use Rattle.bench_play.specs.Bench.{LineAnswer, unitAt, messageAt}
-use Rattle.bench_play.specs.Play.{deliveryConditions, delivery, cutShort, unitAnswer, answer}
+use Rattle.bench_play.specs.Bench.{LineAnswer, unit_at, message_at}
+use Rattle.bench_play.specs.Play.{delivery_conditions, delivery, cut_short, unit_answer, answer}
 use Rattle.bench_play.specs.declared.Bench.{Bench}
-use Rattle.bench_play.specs.Claims.{Sized, WouldSend, Sending, ofP, ofD, NoPlace}
-use Rattle.bench_play.proofs.Accepting.{cut-accepted, off-accepted, on-accepted}
-use Rattle.bench_play.proofs.Settled.{by-answer}
+use Rattle.bench_play.specs.Claims.{Sized, WouldSend, Sending, of_p, of_d, NoPlace}
+use Rattle.bench_play.proofs.Accepting.{cut_accepted, off_accepted, on_accepted}
+use Rattle.bench_play.proofs.Settled.{by_answer}
 
 -- ---- a unit's own refusals
 
@@ -37,8 +37,8 @@ pub record EachRefusal (Q : Refusal → Type 0) (l : Limits) (b : Bench) (u : �
   pub unsent : Q Refusal.Unsent
   pub addressee : Q Refusal.Addressee
   -- a message sent that is malformed, or would close the last round
-  pub message : (k : ℕ) → k < b.kept → messageOk l (messageAt b k) ≡ false → Q Refusal.Message
-  pub last : (k : ℕ) → k < b.kept → closesLast l (unitAt b u) (messageAt b k) ≡ true → Q Refusal.LastRound
+  pub message : (k : ℕ) → k < b.kept → message_ok l (message_at b k) ≡ false → Q Refusal.Message
+  pub last : (k : ℕ) → k < b.kept → closes_last l (unit_at b u) (message_at b k) ≡ true → Q Refusal.LastRound
 
 module _ (Q : Refusal → Type 0) where
   -- of each condition that holds
@@ -46,73 +46,73 @@ module _ (Q : Refusal → Type 0) where
   Holding [] = Unit
   Holding (r ∷ rs) = (r.holds ≡ true → Q r.refusal) × Holding rs
 
-  first-of : Q Refusal.None → (cs : List Condition) → Holding cs → Q (firstOf cs)
-  unfolding firstOf
-  first-of none [] h = none
-  first-of none (r ∷ rs) h = go r.holds refl (first-of none rs h.1)
+  first_of : Q Refusal.None → (cs : List Condition) → Holding cs → Q (first_refusal cs)
+  unfolding first_refusal
+  first_of none [] h = none
+  first_of none (r ∷ rs) h = go r.holds refl (first_of none rs h.1)
     where
-      go : (t : Bool) → r.holds ≡ t → Q (firstOf rs) → Q (cond t r.refusal (firstOf rs))
+      go : (t : Bool) → r.holds ≡ t → Q (first_refusal rs) → Q (cond t r.refusal (first_refusal rs))
       go true e later = h.0 e
       go false e later = later
 
-  unless-of : Q Refusal.None → (cs : List Condition) (u : U.Unit) (a : Answer) → Holding cs → (numberOf (firstOf cs) ≡ 0 → Q a.refusal)
+  unless_of : Q Refusal.None → (cs : List Condition) (u : U.Unit) (a : Answer) → Holding cs → (number_of (first_refusal cs) ≡ 0 → Q a.refusal)
       → Q (unless cs u a).refusal
   unfolding unless
-  unless-of none cs u a h accepted = go (eqb (numberOf (firstOf cs)) 0) refl
+  unless_of none cs u a h accepted = go (eqb (number_of (first_refusal cs)) 0) refl
     where
-      go : (t : Bool) → eqb (numberOf (firstOf cs)) 0 ≡ t → Q (cond t a (refuses u (firstOf cs))).refusal
+      go : (t : Bool) → eqb (number_of (first_refusal cs)) 0 ≡ t → Q (cond t a (refuses u (first_refusal cs))).refusal
       go true e = accepted (eqb-true _ _ e)
-      go false e = first-of none cs h
+      go false e = first_of none cs h
 
   module _ (l : Limits) (b : Bench) (u : ℕ) (each : EachRefusal Q l b u) where
-    of-propose : (v : ℕ) → Q (propose l (unitAt b u) v).refusal
-    unfolding propose proposeConditions
-    of-propose v =
-        unless-of each.none (proposeConditions l (unitAt b u) v) (unitAt b u) (proposed (unitAt b u) v)
-        (λ h. each.power, (λ h. each.mileage, tt)) (λ ok. rw (plain-proposed (unitAt b u) v).none each.none)
+    of_propose : (v : ℕ) → Q (propose l (unit_at b u) v).refusal
+    unfolding propose propose_conditions
+    of_propose v =
+        unless_of each.none (propose_conditions l (unit_at b u) v) (unit_at b u) (proposed (unit_at b u) v)
+        (λ h. each.power, (λ h. each.mileage, tt)) (λ ok. rw (plain_proposed (unit_at b u) v).none each.none)
 
-    of-delivery : (k : ℕ) → Q (delivery l b u k).refusal
-    unfolding delivery deliveryConditions deliver deliverConditions
-    of-delivery k =
-        let conditions = deliveryConditions (unitAt b u) b.kept k in
-        unless-of each.none conditions (unitAt b u) (deliver l (unitAt b u) (messageAt b k)) (λ h. each.power, (λ h. each.unsent, tt))
+    of_delivery : (k : ℕ) → Q (delivery l b u k).refusal
+    unfolding delivery delivery_conditions deliver deliver_conditions
+    of_delivery k =
+        let conditions = delivery_conditions (unit_at b u) b.kept k in
+        unless_of each.none conditions (unit_at b u) (deliver l (unit_at b u) (message_at b k)) (λ h. each.power, (λ h. each.unsent, tt))
         (λ ok.
-        let sent : k < b.kept = leb-false _ _ ((first-lowest conditions (omega arith, (omega arith, tt))).accepted ok).1.0 in
-        unless-of each.none (deliverConditions l (unitAt b u) (messageAt b k)) (unitAt b u) (received (unitAt b u) (messageAt b k))
+        let sent : k < b.kept = leb-false _ _ ((first_lowest conditions (omega arith, (omega arith, tt))).accepted ok).1.0 in
+        unless_of each.none (deliver_conditions l (unit_at b u) (message_at b k)) (unit_at b u) (received (unit_at b u) (message_at b k))
         (λ h. each.message k sent (not-true _ h), (λ h. each.power, (λ h. each.addressee, (λ h. each.last k sent h, tt))))
-        (λ ok. rw (plain-received (unitAt b u) (messageAt b k)).none each.none))
+        (λ ok. rw (plain_received (unit_at b u) (message_at b k)).none each.none))
 
-    of-key-off : (x : U.Unit) → Q (keyOff x).refusal
-    unfolding keyOff
-    of-key-off x = unless-of each.none _ x _ (λ h. each.power, tt) (λ ok. each.none)
+    of_key_off : (x : U.Unit) → Q (key_off x).refusal
+    unfolding key_off
+    of_key_off x = unless_of each.none _ x _ (λ h. each.power, tt) (λ ok. each.none)
 
-    of-key-on : (x : U.Unit) → Q (keyOn x).refusal
-    unfolding keyOn
-    of-key-on x = unless-of each.none _ x _ (λ h. each.power, tt) (λ ok. each.none)
+    of_key_on : (x : U.Unit) → Q (key_on x).refusal
+    unfolding key_on
+    of_key_on x = unless_of each.none _ x _ (λ h. each.power, tt) (λ ok. each.none)
 
-    of-cut : (a : Answer) → Q a.refusal → Q (cutShort a).refusal
-    unfolding cutShort
-    of-cut a own = go (eqb (numberOf a.refusal) 0)
+    of_cut : (a : Answer) → Q a.refusal → Q (cut_short a).refusal
+    unfolding cut_short
+    of_cut a own = go (eqb (number_of a.refusal) 0)
       where
-        go : (t : Bool) → Q (cond t (keyOff a.unit) a).refusal
-        go true = of-key-off a.unit
+        go : (t : Bool) → Q (cond t (key_off a.unit) a).refusal
+        go true = of_key_off a.unit
         go false = own
 
-  pub of-unit : (l : Limits) (b : Bench) (e : ScriptEvent) → EachRefusal Q l b (eventUnit e) → Q (unitAnswer l b e).refusal
-  unfolding unitAnswer
-  of-unit l b ScriptEvent.Malformed each = each.line
-  of-unit l b (ScriptEvent.Propose u v) each = of-propose l b u each v
-  of-unit l b (ScriptEvent.Deliver u k) each = of-delivery l b u each k
-  of-unit l b (ScriptEvent.Cut u k) each = of-cut l b u each (delivery l b u k) (of-delivery l b u each k)
-  of-unit l b (ScriptEvent.KeyOff u) each = of-key-off l b u each (unitAt b u)
-  of-unit l b (ScriptEvent.KeyOn u) each = of-key-on l b u each (unitAt b u)
+  pub of_unit_lem : (l : Limits) (b : Bench) (e : ScriptEvent) → EachRefusal Q l b (event_unit e) → Q (unit_answer l b e).refusal
+  unfolding unit_answer
+  of_unit_lem l b ScriptEvent.Malformed each = each.line
+  of_unit_lem l b (ScriptEvent.Propose u v) each = of_propose l b u each v
+  of_unit_lem l b (ScriptEvent.Deliver u k) each = of_delivery l b u each k
+  of_unit_lem l b (ScriptEvent.Cut u k) each = of_cut l b u each (delivery l b u k) (of_delivery l b u each k)
+  of_unit_lem l b (ScriptEvent.KeyOff u) each = of_key_off l b u each (unit_at b u)
+  of_unit_lem l b (ScriptEvent.KeyOn u) each = of_key_on l b u each (unit_at b u)
 
 -- ---- 11
 
 -- 11 is none of a unit's own
-own-below : (l : Limits) (b : Bench) (e : ScriptEvent) → numberOf (unitAnswer l b e).refusal < 11
-own-below l b e =
-    of-unit (λ k. numberOf k < 11) l b e
+own_below : (l : Limits) (b : Bench) (e : ScriptEvent) → number_of (unit_answer l b e).refusal < 11
+own_below l b e =
+    of_unit_lem (λ k. number_of k < 11) l b e
     (record {
       none = omega arith;
       line = omega arith;
@@ -126,34 +126,34 @@ own-below l b e =
 
 -- W, K and U send nothing
 sending : (l : Limits) (b : Bench) (e : ScriptEvent) → WouldSend l b e → Sending e
-unfolding unitAnswer
+unfolding unit_answer
 sending l b ScriptEvent.Malformed w = absurd (omega (arith, w.accepted))
-sending l b (ScriptEvent.Propose u v) w = ofP
-sending l b (ScriptEvent.Deliver u k) w = ofD
+sending l b (ScriptEvent.Propose u v) w = of_p
+sending l b (ScriptEvent.Deliver u k) w = of_d
 sending l b (ScriptEvent.Cut u k) w =
-    let c = cut-accepted (delivery l b u k) w.accepted in
-    let off = off-accepted (delivery l b u k).unit (rw c.1 at w.accepted) in
+    let c = cut_accepted (delivery l b u k) w.accepted in
+    let off = off_accepted (delivery l b u k).unit (rw c.1 at w.accepted) in
     absurd (w.message (rw (c.1 ∙ off)))
-sending l b (ScriptEvent.KeyOff u) w = absurd (w.message (rw (off-accepted (unitAt b u) w.accepted)))
-sending l b (ScriptEvent.KeyOn u) w = absurd (w.message (rw (on-accepted (unitAt b u) w.accepted).1))
+sending l b (ScriptEvent.KeyOff u) w = absurd (w.message (rw (off_accepted (unit_at b u) w.accepted)))
+sending l b (ScriptEvent.KeyOn u) w = absurd (w.message (rw (on_accepted (unit_at b u) w.accepted).1))
 
 -- of any bench that is not overfull
-pub full-only : (l : Limits) (b : Bench) → Sized b → (e : ScriptEvent) → (answer l b e).refusal ≡ Refusal.Full → NoPlace l b e
-full-only l b sized e =
-    by-answer (λ (r : LineAnswer). r.refusal ≡ Refusal.Full → NoPlace l b e) l b e
+pub full_only : (l : Limits) (b : Bench) → Sized b → (e : ScriptEvent) → (answer l b e).refusal ≡ Refusal.Full → NoPlace l b e
+full_only l b sized e =
+    by_answer (λ (r : LineAnswer). r.refusal ≡ Refusal.Full → NoPlace l b e) l b e
     (record {
-      refuses = λ some q. absurd (omega (arith, own-below l b e, ap numberOf q));
-      quiet = λ ok empty q. absurd (omega (arith, ap numberOf q));
+      refuses = λ some q. absurd (omega (arith, own_below l b e, ap number_of q));
+      quiet = λ ok empty q. absurd (omega (arith, ap number_of q));
       full = λ ok some full q.
           let would : WouldSend l b e = record { accepted = ok; message = some } in
           record { kept = omega (arith, sized.kept); would = would; sending = sending l b e would };
-      sends = λ ok some room q. absurd (omega (arith, ap numberOf q));
+      sends = λ ok some room q. absurd (omega (arith, ap number_of q));
     })
 
 -- and of any bench at all
-pub full-met : (l : Limits) (b : Bench) (e : ScriptEvent) → WouldSend l b e → places ≤ b.kept → (answer l b e).refusal ≡ Refusal.Full
-full-met l b e would full =
-    by-answer (λ (r : LineAnswer). r.refusal ≡ Refusal.Full) l b e
+pub full_met : (l : Limits) (b : Bench) (e : ScriptEvent) → WouldSend l b e → places ≤ b.kept → (answer l b e).refusal ≡ Refusal.Full
+full_met l b e would full =
+    by_answer (λ (r : LineAnswer). r.refusal ≡ Refusal.Full) l b e
     (record {
       refuses = λ some. absurd (some would.accepted);
       quiet = λ ok empty. absurd (would.message empty);

@@ -12,18 +12,18 @@ use lib.ListN.{length, get_or, set, length-append, length-replicate, length-set}
 use lib.Seq.{get_or-set_same, get_or-set_other}
 use borrow.Author.Tests.{eqb-true, eqb-false}
 use Rattle.tally.specs.Limits.{Limits, places, senders}
-use Rattle.tally.specs.Refusal.{numberOf}
-use Rattle.contents.specs.Messages.{emptyMessage}
+use Rattle.tally.specs.Refusal.{number_of}
+use Rattle.contents.specs.Messages.{empty_message}
 use Rattle.consensus.specs.declared.Unit as U
-use Rattle.script.specs.Script.{eventUnit}
+use Rattle.script.specs.Script.{event_unit}
 use Rattle.script.specs.declared.ScriptEvent.{ScriptEvent}
 use Rattle.script.specs.declared.Header.{Header}
-use Rattle.bench_play.specs.Bench.{LineAnswer, freshUnits, start, noUnit, unitAt, messageAt, withUnit, withMessage}
-use Rattle.bench_play.specs.Play.{Played, unitAnswer, answer, play, benchAfter}
+use Rattle.bench_play.specs.Bench.{LineAnswer, fresh_units, start, no_unit, unit_at, message_at, with_unit, with_message}
+use Rattle.bench_play.specs.Play.{Played, unit_answer, answer, play, bench_after}
 use Rattle.bench_play.specs.declared.Bench.{Bench}
 use Rattle.bench_play.specs.declared.Sent.{Sent}
-use Rattle.bench_play.specs.Claims.{Sized, KeptStays, Unchanged, rising, sentNumbers}
-use Rattle.bench_play.proofs.Settled.{by-answer}
+use Rattle.bench_play.specs.Claims.{Sized, KeptStays, Unchanged, rising, sent_numbers}
+use Rattle.bench_play.proofs.Settled.{by_answer}
 
 -- a line and what it was answered
 abbrev pub played : ScriptEvent → LineAnswer → Played
@@ -32,18 +32,18 @@ played e r = record { event = e; answer = r }
 -- ---- the bench
 
 -- the units after one is replaced
-pub unit-set : (b : Bench) (u : ℕ) (x : U.Unit) (v : ℕ) → u < length b.units → get_or (set b.units u x) v noUnit ≡ cond (eqb v u) x (unitAt b v)
-unfolding unitAt
-unit-set b u x v h = go (eqb v u) refl
+pub unit_set : (b : Bench) (u : ℕ) (x : U.Unit) (v : ℕ) → u < length b.units → get_or (set b.units u x) v no_unit ≡ cond (eqb v u) x (unit_at b v)
+unfolding unit_at
+unit_set b u x v h = go (eqb v u) refl
   where
-    go : (t : Bool) → eqb v u ≡ t → get_or (set b.units u x) v noUnit ≡ cond t x (get_or b.units v noUnit)
-    go true e = rw (eqb-true v u e) (get_or-set_same b.units u x noUnit h)
-    go false e = get_or-set_other b.units u v x noUnit (eqb-false v u e)
+    go : (t : Bool) → eqb v u ≡ t → get_or (set b.units u x) v no_unit ≡ cond t x (get_or b.units v no_unit)
+    go true e = rw (eqb-true v u e) (get_or-set_same b.units u x no_unit h)
+    go false e = get_or-set_other b.units u v x no_unit (eqb-false v u e)
 
-pub sized-answer : (l : Limits) (b : Bench) → Sized b → (e : ScriptEvent) → Sized (answer l b e).bench
-unfolding withUnit withMessage
-sized-answer l b sized e =
-    by-answer (λ r. Sized r.bench) l b e
+pub sized_answer : (l : Limits) (b : Bench) → Sized b → (e : ScriptEvent) → Sized (answer l b e).bench
+unfolding with_unit with_message
+sized_answer l b sized e =
+    by_answer (λ r. Sized r.bench) l b e
     (record {
       refuses = λ some. sized;
       quiet = λ ok empty. record { units = size; messages = sized.messages; kept = sized.kept };
@@ -52,61 +52,61 @@ sized-answer l b sized e =
           record { units = size; messages = length-set b.messages b.kept _ ∙ sized.messages; kept = omega arith };
     })
   where
-    size : length (set b.units (eventUnit e) (unitAnswer l b e).unit) ≡ senders
-    size = length-set b.units (eventUnit e) (unitAnswer l b e).unit ∙ sized.units
+    size : length (set b.units (event_unit e) (unit_answer l b e).unit) ≡ senders
+    size = length-set b.units (event_unit e) (unit_answer l b e).unit ∙ sized.units
 
 -- ---- messages once kept
 
-kept-same : (b : Bench) → KeptStays b b
-kept-same b = record { kept = omega arith; messages = λ k h. refl }
+kept_same : (b : Bench) → KeptStays b b
+kept_same b = record { kept = omega arith; messages = λ k h. refl }
 
-kept-then : {a b c : Bench} → KeptStays a b → KeptStays b c → KeptStays a c
-kept-then f g =
+kept_then : {a b c : Bench} → KeptStays a b → KeptStays b c → KeptStays a c
+kept_then f g =
     record { kept = omega (arith, f.kept, g.kept); messages = λ k h. g.messages k (omega (arith, h, f.kept)) ∙ f.messages k h }
 
-answer-stays : (l : Limits) (b : Bench) (e : ScriptEvent) → KeptStays b (answer l b e).bench
-unfolding withUnit withMessage messageAt
-answer-stays l b e =
-    by-answer (λ r. KeptStays b r.bench) l b e
+answer_stays : (l : Limits) (b : Bench) (e : ScriptEvent) → KeptStays b (answer l b e).bench
+unfolding with_unit with_message message_at
+answer_stays l b e =
+    by_answer (λ r. KeptStays b r.bench) l b e
     (record {
-      refuses = λ some. kept-same b;
+      refuses = λ some. kept_same b;
       quiet = λ ok empty. record { kept = omega arith; messages = λ k h. refl };
-      full = λ ok some full. kept-same b;
+      full = λ ok some full. kept_same b;
       sends = λ ok some room.
-          record { kept = omega arith; messages = λ k h. get_or-set_other b.messages b.kept k _ emptyMessage (λ same. omega (arith, same, h)) };
+          record { kept = omega arith; messages = λ k h. get_or-set_other b.messages b.kept k _ empty_message (λ same. omega (arith, same, h)) };
     })
 
 -- after any lines
-pub kept-stays : (l : Limits) (b : Bench) (es : List ScriptEvent) → KeptStays b (benchAfter l b es)
-unfolding benchAfter
-kept-stays l b [] = kept-same b
-kept-stays l b (e ∷ es) = kept-then (answer-stays l b e) (kept-stays l (answer l b e).bench es)
+pub kept_stays : (l : Limits) (b : Bench) (es : List ScriptEvent) → KeptStays b (bench_after l b es)
+unfolding bench_after
+kept_stays l b [] = kept_same b
+kept_stays l b (e ∷ es) = kept_then (answer_stays l b e) (kept_stays l (answer l b e).bench es)
 
-pub sized-after : (l : Limits) (es : List ScriptEvent) (b : Bench) → Sized b → Sized (benchAfter l b es)
-unfolding benchAfter
-sized-after l [] b sized = sized
-sized-after l (e ∷ es) b sized = sized-after l es (answer l b e).bench (sized-answer l b sized e)
+pub sized_after : (l : Limits) (es : List ScriptEvent) (b : Bench) → Sized b → Sized (bench_after l b es)
+unfolding bench_after
+sized_after l [] b sized = sized
+sized_after l (e ∷ es) b sized = sized_after l es (answer l b e).bench (sized_answer l b sized e)
 
 -- from the start on
-pub fresh-length : (h : Header) (k : ℕ) → length (freshUnits h k) ≡ k
-unfolding freshUnits
-fresh-length h zero = refl
-fresh-length h (suc k) = simp (length-append, fresh-length h k) (omega arith)
+pub fresh_length : (h : Header) (k : ℕ) → length (fresh_units h k) ≡ k
+unfolding fresh_units
+fresh_length h zero = refl
+fresh_length h (suc k) = simp (length-append, fresh_length h k) (omega arith)
 
-pub start-sized : (h : Header) → Sized (start h)
+pub start_sized : (h : Header) → Sized (start h)
 unfolding start
-start-sized h = record { units = fresh-length h senders; messages = length-replicate places emptyMessage; kept = omega arith }
+start_sized h = record { units = fresh_length h senders; messages = length-replicate places empty_message; kept = omega arith }
 
 -- the bench that a script reaches
-pub reached-sized : (h : Header) (l : Limits) (es : List ScriptEvent) → Sized (benchAfter l (start h) es)
-reached-sized h l es = sized-after l es (start h) (start-sized h)
+pub reached_sized : (h : Header) (l : Limits) (es : List ScriptEvent) → Sized (bench_after l (start h) es)
+reached_sized h l es = sized_after l es (start h) (start_sized h)
 
 -- ---- a refused line
 
 -- of any bench and event
-pub refused-stays : (l : Limits) (b : Bench) (e : ScriptEvent) → (numberOf (answer l b e).refusal ≡ 0 → ⊥) → Unchanged b (answer l b e)
-refused-stays l b e =
-    by-answer (λ r. (numberOf r.refusal ≡ 0 → ⊥) → Unchanged b r) l b e
+pub refused_stays : (l : Limits) (b : Bench) (e : ScriptEvent) → (number_of (answer l b e).refusal ≡ 0 → ⊥) → Unchanged b (answer l b e)
+refused_stays l b e =
+    by_answer (λ r. (number_of r.refusal ≡ 0 → ⊥) → Unchanged b r) l b e
     (record {
       refuses = λ some n. record { bench = refl; sent = refl; decision = refl };
       quiet = λ ok empty n. absurd (n refl);
@@ -121,12 +121,12 @@ pub record LineOf (l : Limits) (b : Bench) (es : List ScriptEvent) (p : Played) 
   pub before : List ScriptEvent
   pub after : List ScriptEvent
   pub split : es ≡ before ++ (p.event ∷ after)
-  pub answer : p.answer ≡ answer l (benchAfter l b before) p.event
+  pub answer : p.answer ≡ answer l (bench_after l b before) p.event
 
-pub line-played : (l : Limits) (b : Bench) (es : List ScriptEvent) (p : Played) → Memᴰ p (play l b es) → LineOf l b es p
-unfolding play benchAfter
-line-played l b [] p h = absurd (Memᴰ.not-nil h)
-line-played l b (e ∷ es) p h = go (Memᴰ.cases_cons h) (line-played l (answer l b e).bench es p)
+pub line_played : (l : Limits) (b : Bench) (es : List ScriptEvent) (p : Played) → Memᴰ p (play l b es) → LineOf l b es p
+unfolding play bench_after
+line_played l b [] p h = absurd (Memᴰ.not-nil h)
+line_played l b (e ∷ es) p h = go (Memᴰ.cases_cons h) (line_played l (answer l b e).bench es p)
   where
     go : (p ≡ played e (answer l b e)) ⊎ Memᴰ p (play l (answer l b e).bench es)
         → (Memᴰ p (play l (answer l b e).bench es) → LineOf l (answer l b e).bench es p) → LineOf l b (e ∷ es) p
@@ -138,19 +138,19 @@ line-played l b (e ∷ es) p h = go (Memᴰ.cases_cons h) (line-played l (answer
 -- ---- counts
 
 -- as many lines are played as the script has
-pub as-many : (l : Limits) (b : Bench) (es : List ScriptEvent) → length (play l b es) ≡ length es
+pub as_many : (l : Limits) (b : Bench) (es : List ScriptEvent) → length (play l b es) ≡ length es
 unfolding play
-as-many l b [] = refl
-as-many l b (e ∷ es) = ap suc (as-many l (answer l b e).bench es)
+as_many l b [] = refl
+as_many l b (e ∷ es) = ap suc (as_many l (answer l b e).bench es)
 
 -- of a line's answer: nothing is sent, or the message of the next number
 abbrev TakesNext : Bench → LineAnswer → Type 0
 TakesNext b r = ((r.sent ≡ Sent.Nothing) × (r.bench.kept ≡ b.kept)) ⊎ ((r.sent ≡ Sent.At b.kept) × (r.bench.kept ≡ b.kept + 1))
 
-takes-next : (l : Limits) (b : Bench) (e : ScriptEvent) → TakesNext b (answer l b e)
-unfolding withUnit withMessage
-takes-next l b e =
-    by-answer (TakesNext b) l b e
+takes_next : (l : Limits) (b : Bench) (e : ScriptEvent) → TakesNext b (answer l b e)
+unfolding with_unit with_message
+takes_next l b e =
+    by_answer (TakesNext b) l b e
     (record {
       refuses = λ some. inl (refl, refl);
       quiet = λ ok empty. inl (refl, refl);
@@ -160,16 +160,16 @@ takes-next l b e =
 
 -- each line that sends takes the next place, of which it shows the number
 pub record Numbered (k : ℕ) (b : Bench) (lines : List Played) : Type 0 where
-  pub kept : b.kept ≡ k + length (sentNumbers lines)
-  pub numbers : sentNumbers lines ≡ rising k (length (sentNumbers lines))
+  pub kept : b.kept ≡ k + length (sent_numbers lines)
+  pub numbers : sent_numbers lines ≡ rising k (length (sent_numbers lines))
 
-pub numbered : (l : Limits) (b : Bench) (es : List ScriptEvent) → Numbered b.kept (benchAfter l b es) (play l b es)
-unfolding play benchAfter sentNumbers flat_map
+pub numbered : (l : Limits) (b : Bench) (es : List ScriptEvent) → Numbered b.kept (bench_after l b es) (play l b es)
+unfolding play bench_after sent_numbers flat_map
 numbered l b [] = record { kept = omega arith; numbers = refl }
-numbered l b (e ∷ es) = go (takes-next l b e) (numbered l (answer l b e).bench es)
+numbered l b (e ∷ es) = go (takes_next l b e) (numbered l (answer l b e).bench es)
   where
-    go : TakesNext b (answer l b e) → Numbered (answer l b e).bench.kept (benchAfter l (answer l b e).bench es) (play l (answer l b e).bench es)
-        → Numbered b.kept (benchAfter l (answer l b e).bench es) (played e (answer l b e) ∷ play l (answer l b e).bench es)
+    go : TakesNext b (answer l b e) → Numbered (answer l b e).bench.kept (bench_after l (answer l b e).bench es) (play l (answer l b e).bench es)
+        → Numbered b.kept (bench_after l (answer l b e).bench es) (played e (answer l b e) ∷ play l (answer l b e).bench es)
     go (inl q) r = record { kept = rw q.0 (omega (arith, r.kept, q.1)); numbers = rw q.0 (rw q.1 at r.numbers) }
     go (inr q) r =
         record {

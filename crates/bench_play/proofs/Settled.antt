@@ -6,76 +6,76 @@ use mathlib.Core.List.{List}
 use lib.Dec.{eqb, leb}
 use borrow.Author.Tests.{eqb-true, eqb-false, leb-true, leb-false}
 use Rattle.tally.specs.Limits.{Limits, places}
-use Rattle.tally.specs.Refusal.{numberOf}
+use Rattle.tally.specs.Refusal.{number_of}
 use Rattle.tally.specs.declared.Refusal.{Refusal}
 use Rattle.tally.proofs.Never.{never}
-use Rattle.contents.specs.Messages.{isEmpty}
+use Rattle.contents.specs.Messages.{is_empty}
 use Rattle.contents.specs.declared.Kind.{Kind}
 use Rattle.contents.specs.declared.Kind.TheVariants.{Empty, First, Check, Second, Skip}
 use Rattle.consensus.specs.Methods.{refuses, unless}
-use Rattle.consensus.specs.Conditions.{Condition, firstOf}
+use Rattle.consensus.specs.Conditions.{Condition, first_refusal}
 use Rattle.consensus.specs.declared.Answer.{Answer}
 use Rattle.consensus.specs.declared.Unit as U
-use Rattle.script.specs.Script.{eventUnit}
+use Rattle.script.specs.Script.{event_unit}
 use Rattle.script.specs.declared.ScriptEvent.{ScriptEvent}
-use Rattle.bench_play.specs.Bench.{LineAnswer, refused, accepted, noPlaceLeft, withUnit, withMessage, send, settle}
-use Rattle.bench_play.specs.Play.{unitAnswer, answer}
+use Rattle.bench_play.specs.Bench.{LineAnswer, refused, accepted, no_place_left, with_unit, with_message, send, settle}
+use Rattle.bench_play.specs.Play.{unit_answer, answer}
 use Rattle.bench_play.specs.declared.Bench.{Bench}
 use Rattle.bench_play.specs.declared.Sent.{Sent}
 
-is-empty : (k : Kind) → isEmpty k ≡ true → k ≡ Empty
-is-empty Empty h = refl
-is-empty First h = never h
-is-empty Check h = never h
-is-empty Second h = never h
-is-empty Skip h = never h
+is_empty_lem : (k : Kind) → is_empty k ≡ true → k ≡ Empty
+is_empty_lem Empty h = refl
+is_empty_lem First h = never h
+is_empty_lem Check h = never h
+is_empty_lem Second h = never h
+is_empty_lem Skip h = never h
 
-not-empty : (k : Kind) → isEmpty k ≡ false → k ≡ Empty → ⊥
-not-empty k h e = never (sym h ∙ ap isEmpty e)
+not_empty : (k : Kind) → is_empty k ≡ false → k ≡ Empty → ⊥
+not_empty k h e = never (sym h ∙ ap is_empty e)
 
 -- the bench's answer to an answer a of unit u
 pub record Settling (P : LineAnswer → Type 0) (b : Bench) (u : ℕ) (a : Answer) : Type 0 where
-  pub refuses : (numberOf a.refusal ≡ 0 → ⊥) → P (refused b a.refusal)
-  pub quiet : numberOf a.refusal ≡ 0 → a.message.kind ≡ Empty → P (accepted (withUnit b u a.unit) Sent.Nothing a.decision)
-  pub full : numberOf a.refusal ≡ 0 → (a.message.kind ≡ Empty → ⊥) → places ≤ b.kept → P (refused b Refusal.Full)
-  pub sends : numberOf a.refusal ≡ 0 → (a.message.kind ≡ Empty → ⊥) → b.kept < places
-      → P (accepted (withMessage (withUnit b u a.unit) a.message) (Sent.At b.kept) a.decision)
+  pub refuses : (number_of a.refusal ≡ 0 → ⊥) → P (refused b a.refusal)
+  pub quiet : number_of a.refusal ≡ 0 → a.message.kind ≡ Empty → P (accepted (with_unit b u a.unit) Sent.Nothing a.decision)
+  pub full : number_of a.refusal ≡ 0 → (a.message.kind ≡ Empty → ⊥) → places ≤ b.kept → P (refused b Refusal.Full)
+  pub sends : number_of a.refusal ≡ 0 → (a.message.kind ≡ Empty → ⊥) → b.kept < places
+      → P (accepted (with_message (with_unit b u a.unit) a.message) (Sent.At b.kept) a.decision)
 
-pub by-settle : (P : LineAnswer → Type 0) (b : Bench) (u : ℕ) (a : Answer) → Settling P b u a → P (settle b u a)
-unfolding settle send noPlaceLeft
-by-settle P b u a s = number (eqb (numberOf a.refusal) 0) refl
+pub by_settle : (P : LineAnswer → Type 0) (b : Bench) (u : ℕ) (a : Answer) → Settling P b u a → P (settle b u a)
+unfolding settle send no_place_left
+by_settle P b u a s = number (eqb (number_of a.refusal) 0) refl
   where
-    place : numberOf a.refusal ≡ 0 → (a.message.kind ≡ Empty → ⊥) → (t : Bool) → leb places b.kept ≡ t
-        → P (cond t (refused b Refusal.Full) (accepted (withMessage (withUnit b u a.unit) a.message) (Sent.At b.kept) a.decision))
+    place : number_of a.refusal ≡ 0 → (a.message.kind ≡ Empty → ⊥) → (t : Bool) → leb places b.kept ≡ t
+        → P (cond t (refused b Refusal.Full) (accepted (with_message (with_unit b u a.unit) a.message) (Sent.At b.kept) a.decision))
     place zero some true e = s.full zero some (leb-true _ _ e)
     place zero some false e = s.sends zero some (leb-false _ _ e)
 
-    kind : numberOf a.refusal ≡ 0 → (t : Bool) → isEmpty a.message.kind ≡ t
-        → P (cond t (accepted (withUnit b u a.unit) Sent.Nothing a.decision) (send b u a))
-    kind zero true e = s.quiet zero (is-empty _ e)
-    kind zero false e = place zero (not-empty _ e) (leb places b.kept) refl
+    kind : number_of a.refusal ≡ 0 → (t : Bool) → is_empty a.message.kind ≡ t
+        → P (cond t (accepted (with_unit b u a.unit) Sent.Nothing a.decision) (send b u a))
+    kind zero true e = s.quiet zero (is_empty_lem _ e)
+    kind zero false e = place zero (not_empty _ e) (leb places b.kept) refl
 
-    number : (t : Bool) → eqb (numberOf a.refusal) 0 ≡ t
-        → P (cond t (cond (isEmpty a.message.kind) (accepted (withUnit b u a.unit) Sent.Nothing a.decision) (send b u a)) (refused b a.refusal))
-    number true e = kind (eqb-true _ _ e) (isEmpty a.message.kind) refl
+    number : (t : Bool) → eqb (number_of a.refusal) 0 ≡ t
+        → P (cond t (cond (is_empty a.message.kind) (accepted (with_unit b u a.unit) Sent.Nothing a.decision) (send b u a)) (refused b a.refusal))
+    number true e = kind (eqb-true _ _ e) (is_empty a.message.kind) refl
     number false e = s.refuses (eqb-false _ _ e)
 
 -- a malformed line is refused
-pub answer-line : (l : Limits) (b : Bench) → answer l b ScriptEvent.Malformed ≡ refused b Refusal.Line
-unfolding answer unitAnswer settle
-answer-line l b = refl
+pub answer_line : (l : Limits) (b : Bench) → answer l b ScriptEvent.Malformed ≡ refused b Refusal.Line
+unfolding answer unit_answer settle
+answer_line l b = refl
 
-pub by-answer : (P : LineAnswer → Type 0) (l : Limits) (b : Bench) (e : ScriptEvent) → Settling P b (eventUnit e) (unitAnswer l b e) → P (answer l b e)
+pub by_answer : (P : LineAnswer → Type 0) (l : Limits) (b : Bench) (e : ScriptEvent) → Settling P b (event_unit e) (unit_answer l b e) → P (answer l b e)
 unfolding answer
-by-answer P l b e s = by-settle P b (eventUnit e) (unitAnswer l b e) s
+by_answer P l b e s = by_settle P b (event_unit e) (unit_answer l b e) s
 
 -- a method whose number is 0 is the step's answer
-pub unless-accepts : (cs : List Condition) (u : U.Unit) (a : Answer) → numberOf (unless cs u a).refusal ≡ 0
-    → (numberOf (firstOf cs) ≡ 0) × (unless cs u a ≡ a)
+pub unless_accepts : (cs : List Condition) (u : U.Unit) (a : Answer) → number_of (unless cs u a).refusal ≡ 0
+    → (number_of (first_refusal cs) ≡ 0) × (unless cs u a ≡ a)
 unfolding unless
-unless-accepts cs u a = go (eqb (numberOf (firstOf cs)) 0) refl
+unless_accepts cs u a = go (eqb (number_of (first_refusal cs)) 0) refl
   where
-    go : (t : Bool) → eqb (numberOf (firstOf cs)) 0 ≡ t → numberOf (cond t a (refuses u (firstOf cs))).refusal ≡ 0
-        → (numberOf (firstOf cs) ≡ 0) × (cond t a (refuses u (firstOf cs)) ≡ a)
+    go : (t : Bool) → eqb (number_of (first_refusal cs)) 0 ≡ t → number_of (cond t a (refuses u (first_refusal cs))).refusal ≡ 0
+        → (number_of (first_refusal cs) ≡ 0) × (cond t a (refuses u (first_refusal cs)) ≡ a)
     go true e h = (eqb-true _ _ e, refl)
     go false e h = absurd (eqb-false _ _ e h)

@@ -2,12 +2,12 @@
 use Rattle.std.specs.Prelude.{ℕ, zero, suc, ◌≤◌, ◌<◌, ◌≡◌, length}
 use mathlib.Core.List.{List, [], ◌∷◌, flat_map}
 use Rattle.tally.specs.Limits.{Limits, senders, places}
-use Rattle.tally.specs.Refusal.{numberOf}
+use Rattle.tally.specs.Refusal.{number_of}
 use Rattle.tally.specs.declared.Estimate.TheVariants.{Blank}
 use Rattle.contents.specs.declared.Kind.TheVariants.{Empty}
 use Rattle.script.specs.declared.ScriptEvent.{ScriptEvent}
-use Rattle.bench_play.specs.Play.{Played, unitAnswer}
-use Rattle.bench_play.specs.Bench.{LineAnswer, messageAt}
+use Rattle.bench_play.specs.Play.{Played, unit_answer}
+use Rattle.bench_play.specs.Bench.{LineAnswer, message_at}
 use Rattle.bench_play.specs.declared.Bench.{Bench}
 use Rattle.bench_play.specs.declared.Sent.{Sent}
 
@@ -20,7 +20,7 @@ pub record Sized (b : Bench) : Type 0 where
 -- from the bench b to a later one c: no fewer messages are kept, and each that was is the same
 pub record KeptStays (b c : Bench) : Type 0 where
   pub kept : b.kept ≤ c.kept
-  pub messages : (k : ℕ) → k < b.kept → messageAt c k ≡ messageAt b k
+  pub messages : (k : ℕ) → k < b.kept → message_at c k ≡ message_at b k
 
 -- a refused line changes nothing, sends nothing and decides nothing
 pub record Unchanged (b : Bench) (r : LineAnswer) : Type 0 where
@@ -30,13 +30,13 @@ pub record Unchanged (b : Bench) (r : LineAnswer) : Type 0 where
 
 -- the event would send: its unit accepts it, with a message
 pub record WouldSend (l : Limits) (b : Bench) (e : ScriptEvent) : Type 0 where
-  pub accepted : numberOf (unitAnswer l b e).refusal ≡ 0
-  pub message : (unitAnswer l b e).message.kind ≡ Empty → ⊥
+  pub accepted : number_of (unit_answer l b e).refusal ≡ 0
+  pub message : (unit_answer l b e).message.kind ≡ Empty → ⊥
 
 -- P or D
 pub data Sending : ScriptEvent → Type 0 where
-  ofP : {u v : ℕ} → Sending (ScriptEvent.Propose u v)
-  ofD : {u k : ℕ} → Sending (ScriptEvent.Deliver u k)
+  of_p : {u v : ℕ} → Sending (ScriptEvent.Propose u v)
+  of_d : {u k : ℕ} → Sending (ScriptEvent.Deliver u k)
 
 -- 11: all places are filled, and the event, a P or a D, would send
 pub record NoPlace (l : Limits) (b : Bench) (e : ScriptEvent) : Type 0 where
@@ -50,9 +50,9 @@ rising k zero = []
 rising k (suc j) = k ∷ rising (suc k) j
 
 -- the message numbers shown, in order: one for each line that sent a message
-abbrev pub sentOf : Sent → List ℕ
-sentOf Sent.Nothing = []
-sentOf (Sent.At k) = k ∷ []
+abbrev pub sent_of : Sent → List ℕ
+sent_of Sent.Nothing = []
+sent_of (Sent.At k) = k ∷ []
 
-unfoldable pub sentNumbers : List Played → List ℕ
-sentNumbers lines = flat_map (λ (p : Played). sentOf p.answer.sent) lines
+unfoldable pub sent_numbers : List Played → List ℕ
+sent_numbers lines = flat_map (λ (p : Played). sent_of p.answer.sent) lines

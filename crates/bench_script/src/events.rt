@@ -1,14 +1,14 @@
 // The event of a line.
 ghost use Rattle.std.specs.Prelude.{◌≡◌};
 ghost use Rattle.script.specs.Parts.{comma, parted};
-ghost use Rattle.script.specs.Script.{oneOf, twoOf, unitBelow, pairBelow, byLetter, eventLetter, eventOf};
+ghost use Rattle.script.specs.Script.{one_of, two_of, unit_below, pair_below, by_letter, event_letter, event_of};
 
 use super::{numbers, parts};
 use script::{NumberRead, PairRead, ScriptEvent};
 
 // A unit number of n or more is malformed.
 fn unit_below(n: u8, a: NumberRead) -> NumberRead
-    ensures { result ≡ unitBelow n a }
+    ensures { result ≡ unit_below n a }
 {
     match a {
         NumberRead::Is(u) => {
@@ -23,7 +23,7 @@ fn unit_below(n: u8, a: NumberRead) -> NumberRead
 }
 
 fn pair_below(n: u8, p: PairRead) -> PairRead
-    ensures { result ≡ pairBelow n p }
+    ensures { result ≡ pair_below n p }
 {
     match p {
         PairRead::Are(u, x) => {
@@ -39,22 +39,22 @@ fn pair_below(n: u8, p: PairRead) -> PairRead
 
 // The unit that the rest of a line says.
 fn unit_of(n: u8, rest: &[u8]) -> NumberRead
-    ensures { result ≡ unitBelow n (oneOf (parted comma rest.now)) }
+    ensures { result ≡ unit_below n (one_of (parted comma rest.now)) }
 {
     unit_below(n, numbers::one(rest))
 }
 
 // The unit, and a mileage or a message number.
 fn pair_of(n: u8, rest: &[u8]) -> PairRead
-    ensures { result ≡ pairBelow n (twoOf (parted comma rest.now)) }
+    ensures { result ≡ pair_below n (two_of (parted comma rest.now)) }
 {
     pair_below(n, numbers::two(rest))
 }
 
 // The script letter decides the event.
-#[tactic(auto, unfolding(script::specs::Script::byLetter))]
+#[tactic(auto, unfolding(script::specs::Script::by_letter))]
 fn by_letter(n: u8, letter: u8, rest: &[u8]) -> ScriptEvent
-    ensures { result ≡ byLetter n letter (parted comma rest.now) }
+    ensures { result ≡ by_letter n letter (parted comma rest.now) }
 {
     match letter {
         b'P' => match pair_of(n, rest) {
@@ -85,7 +85,7 @@ pub const QUESTION_MARK: u8 = b'?';
 
 // The letter of an event, as a listing shows it.
 pub fn event_letter(e: ScriptEvent) -> u8
-    ensures { result ≡ eventLetter e }
+    ensures { result ≡ event_letter e }
 {
     match e {
         ScriptEvent::Malformed => QUESTION_MARK,
@@ -99,7 +99,7 @@ pub fn event_letter(e: ScriptEvent) -> u8
 
 // A line's event, without its byte 10.
 pub fn event(n: u8, line: &[u8]) -> ScriptEvent
-    ensures { result ≡ eventOf n line.now }
+    ensures { result ≡ event_of n line.now }
 {
     if line.len() < 2 {
         return ScriptEvent::Malformed;

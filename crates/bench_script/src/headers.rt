@@ -1,6 +1,6 @@
 // The header of a script.
 ghost use Rattle.std.specs.Prelude.{◌≡◌, true};
-ghost use Rattle.script.specs.Script.{emptyEngine, engineField, inRanges, headerWith, withNumbers, headerOf};
+ghost use Rattle.script.specs.Script.{empty_engine, engine_field, in_ranges, header_with, with_numbers, header_of};
 
 use super::{numbers, parts};
 use formats::EngineRead;
@@ -9,13 +9,13 @@ use tally::{Engine, limits};
 
 // An empty engine field means B.
 fn empty_engine(n: u32) -> Engine
-    ensures { result ≡ emptyEngine n }
+    ensures { result ≡ empty_engine n }
 {
     Engine::B
 }
 
 fn engine_field(n: u32, f: &[u8]) -> EngineRead
-    ensures { result ≡ engineField n f.now }
+    ensures { result ≡ engine_field n f.now }
 {
     if f.len() < 1 {
         return EngineRead::Is(empty_engine(n));
@@ -27,7 +27,7 @@ fn engine_field(n: u32, f: &[u8]) -> EngineRead
 }
 
 fn in_ranges(n: u32, entry: u32) -> bool
-    ensures { result ≡ inRanges n entry }
+    ensures { result ≡ in_ranges n entry }
 {
     (limits::MIN_UNITS as u32 <= n)
         & (n <= limits::MAX_UNITS as u32)
@@ -36,8 +36,8 @@ fn in_ranges(n: u32, entry: u32) -> bool
 }
 
 fn header_with(engine: EngineRead, n: u32, entry: u32) -> HeaderRead
-    requires { inRanges n entry ≡ true }
-    ensures { result ≡ headerWith engine n entry }
+    requires { in_ranges n entry ≡ true }
+    ensures { result ≡ header_with engine n entry }
 {
     match engine {
         EngineRead::Is(g) => HeaderRead::Is(Header {
@@ -50,7 +50,7 @@ fn header_with(engine: EngineRead, n: u32, entry: u32) -> HeaderRead
 }
 
 fn with_numbers(f: &[u8], p: PairRead) -> HeaderRead
-    ensures { result ≡ withNumbers f.now p }
+    ensures { result ≡ with_numbers f.now p }
 {
     match p {
         PairRead::Are(n, entry) => {
@@ -66,7 +66,7 @@ fn with_numbers(f: &[u8], p: PairRead) -> HeaderRead
 
 // The header's line, without its byte 10.
 pub fn header(line: &[u8]) -> HeaderRead
-    ensures { result ≡ headerOf line.now }
+    ensures { result ≡ header_of line.now }
 {
     let e = parts::before(line, parts::COMMA);
     if line.len() <= e {

@@ -1,8 +1,8 @@
 // The numbers of a script.
 ghost use Rattle.std.specs.Prelude.{◌≡◌, true, ◌≤◌, length};
-ghost use Rattle.script.specs.Numbers.{maxDigits, isDigit, allDigits, leadingZero, valueFrom, readNumber};
+ghost use Rattle.script.specs.Numbers.{max_digits, is_digit, all_digits, leading_zero, value_from, read_number};
 ghost use Rattle.script.specs.Parts.{comma, parted};
-ghost use Rattle.script.specs.Script.{both, oneOf, twoOf};
+ghost use Rattle.script.specs.Script.{both, one_of, two_of};
 
 use super::parts;
 use script::{NumberRead, PairRead};
@@ -12,13 +12,13 @@ pub const MAX_DIGITS: usize = 10;
 const MAX_NUMBER: u64 = 4294967295;
 
 fn is_digit(b: u8) -> bool
-    ensures { result ≡ isDigit b }
+    ensures { result ≡ is_digit b }
 {
     (b'0' <= b) & (b <= b'9')
 }
 
 fn all_digits(s: &[u8]) -> bool
-    ensures { result ≡ allDigits s.now }
+    ensures { result ≡ all_digits s.now }
 {
     let mut i: usize = 0;
     while i < s.len() {
@@ -32,7 +32,7 @@ fn all_digits(s: &[u8]) -> bool
 
 // 0 by itself is fine.
 fn leading_zero(s: &[u8]) -> bool
-    ensures { result ≡ leadingZero s.now }
+    ensures { result ≡ leading_zero s.now }
 {
     if s.len() < 2 { false } else { s[0] == b'0' }
 }
@@ -45,9 +45,9 @@ fn wide(b: u8) -> u64
 
 // The value of the digits.
 fn value(s: &[u8]) -> u64
-    requires s_len_bound { length s.now ≤ maxDigits }
-    requires s_value { allDigits s.now ≡ true }
-    ensures { result ≡ valueFrom 0 s.now }
+    requires s_len_bound { length s.now ≤ max_digits }
+    requires s_value { all_digits s.now ≡ true }
+    ensures { result ≡ value_from 0 s.now }
 {
     let mut v: u64 = 0;
     let mut i: usize = 0;
@@ -59,9 +59,9 @@ fn value(s: &[u8]) -> u64
 }
 
 // A number of a script: 1 to 10 digits, no leading zero, at most 4,294,967,295.
-#[tactic(auto, unfolding(script::specs::Numbers::isNumber, script::specs::Numbers::readNumber))]
+#[tactic(auto, unfolding(script::specs::Numbers::is_number, script::specs::Numbers::read_number))]
 pub fn read_number(s: &[u8]) -> NumberRead
-    ensures { result ≡ readNumber s.now }
+    ensures { result ≡ read_number s.now }
 {
     if s.len() < 1 {
         return NumberRead::Malformed;
@@ -97,14 +97,14 @@ fn both(a: NumberRead, b: NumberRead) -> PairRead
 
 // One field that is a number: a comma is no digit.
 pub fn one(s: &[u8]) -> NumberRead
-    ensures { result ≡ oneOf (parted comma s.now) }
+    ensures { result ≡ one_of (parted comma s.now) }
 {
     read_number(s)
 }
 
 // Two fields that are numbers.
 pub fn two(s: &[u8]) -> PairRead
-    ensures { result ≡ twoOf (parted comma s.now) }
+    ensures { result ≡ two_of (parted comma s.now) }
 {
     let e = parts::before(s, parts::COMMA);
     if s.len() <= e {

@@ -14,6 +14,6 @@ taken i k n xs ys within fits =
     ap (λ m. take (m + n) (take i xs ++ rest)) (sym front) ∙ take-append-add (take i xs) rest n
     ∙ ap (λ l. take i xs ++ l) (take-append-le n ys (post_of i k xs) fits)
 
-pub read-on : (a b c : Option (List ℕ)) (i k n : ℕ) (xs ys : List ℕ) → i ≤ length xs → n ≤ length ys
+pub read_on : (a b c : Option (List ℕ)) (i k n : ℕ) (xs ys : List ℕ) → i ≤ length xs → n ≤ length ys
     → Consumes a b (take i xs) → Consumes b c (take n ys) → Consumes a c (take (i + n) (put_mid i k xs ys))
-read-on a b c i k n xs ys within fits p q = subst (Consumes a c) (sym (taken i k n xs ys within fits)) (Consumes-trans a b c _ _ p q)
+read_on a b c i k n xs ys within fits p q = subst (Consumes a c) (sym (taken i k n xs ys within fits)) (Consumes-trans a b c _ _ p q)

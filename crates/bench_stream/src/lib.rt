@@ -3,8 +3,8 @@
 
 ghost use Rattle.std.specs.Prelude.{◌≡◌, ◌<◌, ◌≤◌, List, ℕ, length, take, OnOk};
 ghost use Rattle.std.specs.Io.KnownBytes.{Appends, Consumes, IsAtEnd};
-ghost use Rattle.tally.specs.Limits.{today, scriptSize};
-ghost use Rattle.bench.specs.Listing.{listingCall};
+ghost use Rattle.tally.specs.Limits.{today, script_size};
+ghost use Rattle.bench.specs.Listing.{listing_call};
 
 use std::io;
 use std::io::{Read, Write};
@@ -33,10 +33,10 @@ fn fill<R: Read>(from: &mut R, script: &mut [u8]) -> (usize, io::Result<()>)
 // The buffer holds the listing of what was read, where it has room for any listing (`bench::page`). Where no read failed, what was read is all that
 // there was, or is too long for a script; where the write did not fail either, the listing is what was written.
 pub fn play<R: Read, W: Write>(from: &mut R, to: &mut W, out: &mut [u8]) -> io::Result<()>
-    ensures { (s : List ℕ) × (out.new ≡ (listingCall today s out.old).out)
+    ensures { (s : List ℕ) × (out.new ≡ (listing_call today s out.old).out)
         × Consumes (R.remaining from.old) (R.remaining from.new) s
-        × OnOk result (length s ≤ scriptSize → IsAtEnd (R.remaining from.new))
-        × OnOk result (Appends (W.contents to.old) (W.contents to.new) (take (listingCall today s out.old).written out.new)) }
+        × OnOk result (length s ≤ script_size → IsAtEnd (R.remaining from.new))
+        × OnOk result (Appends (W.contents to.old) (W.contents to.new) (take (listing_call today s out.old).written out.new)) }
 {
     let mut script = [0u8; READ_SIZE];
     let (size, read) = fill(from, &mut script);

@@ -7,69 +7,69 @@ use native.Mathlib.Decide.{dec_lt}
 use native.Mathlib.Omega.{arith}
 use borrow.Author.Tests.{le-leb, lt-leb, ne_eqb}
 use lib.ListN.{length, get_or, length-append, get_or-append}
-use Rattle.contents.proofs.Tests.{both-true}
-use Rattle.script.specs.Numbers.{digitZero, digitNine, maxDigits, maxNumber, isDigit, allDigits, leadingZero, valueFrom, isNumber, readNumber}
+use Rattle.contents.proofs.Tests.{both_true}
+use Rattle.script.specs.Numbers.{digit_zero, digit_nine, max_digits, max_number, is_digit, all_digits, leading_zero, value_from, is_number, read_number}
 use Rattle.script.specs.declared.NumberRead.{NumberRead}
 use Rattle.bench_text.specs.Text.{digits, decimal}
-use Rattle.bench_text.proofs.Digits.{few, many, lower, digits-short}
+use Rattle.bench_text.proofs.Digits.{few, many, lower, digits_short}
 
 -- the digits s say n, and begin with 0 only where that is all
 record Says (n : ℕ) (s : List ℕ) : Type 0 where
   some : 0 < length s
-  all : allDigits s ≡ true
-  first : 0 < n → get_or s 0 0 ≡ digitZero → ⊥
+  all : all_digits s ≡ true
+  first : 0 < n → get_or s 0 0 ≡ digit_zero → ⊥
   alone : n < 10 → length s ≡ 1
-  value : valueFrom 0 s ≡ n
+  value : value_from 0 s ≡ n
 
-digit : (d : ℕ) → d < 10 → isDigit (digitZero + d) ≡ true
-digit d h = rw (le-leb digitZero (digitZero + d) (omega arith), le-leb (digitZero + d) digitNine (omega arith))
+digit : (d : ℕ) → d < 10 → is_digit (digit_zero + d) ≡ true
+digit d h = rw (le-leb digit_zero (digit_zero + d) (omega arith), le-leb (digit_zero + d) digit_nine (omega arith))
 
-all-snoc : (s : List ℕ) (b : ℕ) → allDigits s ≡ true → isDigit b ≡ true → allDigits (s ++ (b ∷ [])) ≡ true
-all-snoc [] b h d = rw d
-all-snoc (x ∷ s) b h d = let t = both-true (isDigit x) (allDigits s) h in rw (t.0, all-snoc s b t.1 d)
+all_snoc : (s : List ℕ) (b : ℕ) → all_digits s ≡ true → is_digit b ≡ true → all_digits (s ++ (b ∷ [])) ≡ true
+all_snoc [] b h d = rw d
+all_snoc (x ∷ s) b h d = let t = both_true (is_digit x) (all_digits s) h in rw (t.0, all_snoc s b t.1 d)
 
-value-snoc : (v : ℕ) (s : List ℕ) (b : ℕ) → valueFrom v (s ++ (b ∷ [])) ≡ valueFrom v s * 10 + (b - digitZero)
-value-snoc v [] b = refl
-value-snoc v (x ∷ s) b = value-snoc (v * 10 + (x - digitZero)) s b
+value_snoc : (v : ℕ) (s : List ℕ) (b : ℕ) → value_from v (s ++ (b ∷ [])) ≡ value_from v s * 10 + (b - digit_zero)
+value_snoc v [] b = refl
+value_snoc v (x ∷ s) b = value_snoc (v * 10 + (x - digit_zero)) s b
 
 -- a digit alone, and one after others
-says-one : (n : ℕ) → n < 10 → Says n ((digitZero + n) ∷ [])
-says-one n h = record { some = omega arith; all = rw (digit n h); first = λ some zero. omega arith; alone = λ h. refl; value = omega arith }
+says_one : (n : ℕ) → n < 10 → Says n ((digit_zero + n) ∷ [])
+says_one n h = record { some = omega arith; all = rw (digit n h); first = λ some zero. omega arith; alone = λ h. refl; value = omega arith }
 
-says-more : (n : ℕ) (s : List ℕ) → 10 ≤ n → Says (n / 10) s → Says n (s ++ ((digitZero + n % 10) ∷ []))
-says-more n s h r =
+says_more : (n : ℕ) (s : List ℕ) → 10 ≤ n → Says (n / 10) s → Says n (s ++ ((digit_zero + n % 10) ∷ []))
+says_more n s h r =
     record {
       some = rw length-append (omega arith);
-      all = all-snoc s (digitZero + n % 10) r.all (digit (n % 10) (omega arith));
+      all = all_snoc s (digit_zero + n % 10) r.all (digit (n % 10) (omega arith));
       first = λ some zero. r.first (omega arith) (sym (get_or-append s _ 0 0 r.some) ∙ zero);
       alone = λ l. absurd (omega arith);
-      value = value-snoc 0 s (digitZero + n % 10) ∙ rw r.value (omega arith);
+      value = value_snoc 0 s (digit_zero + n % 10) ∙ rw r.value (omega arith);
     }
 
-digits-say : (k n : ℕ) → 0 < k → n < 10 ^ k → Says n (digits k n)
-digits-say zero n p h = absurd (omega arith)
-digits-say (suc k) n p h = go (dec_lt n 10) (digits-say k (n / 10))
+digits_say : (k n : ℕ) → 0 < k → n < 10 ^ k → Says n (digits k n)
+digits_say zero n p h = absurd (omega arith)
+digits_say (suc k) n p h = go (dec_lt n 10) (digits_say k (n / 10))
   where
     go : Dec (n < 10) → (0 < k → n / 10 < 10 ^ k → Says (n / 10) (digits k (n / 10))) → Says n (digits (suc k) n)
-    go (yes l) others = rw (few (suc k) n p l) (says-one n l)
+    go (yes l) others = rw (few (suc k) n p l) (says_one n l)
     go (no g) others =
         let e : suc k - 1 ≡ k = omega arith in
         let less = rw e at (lower (suc k) n (omega arith) h) in
-        rw (many (suc k) n p (omega arith), e) (says-more n (digits k (n / 10)) (omega arith) (others less.0 less.1))
+        rw (many (suc k) n p (omega arith), e) (says_more n (digits k (n / 10)) (omega arith) (others less.0 less.1))
 
 -- so that they are a number of a script
-no-leading-zero : (n : ℕ) (s : List ℕ) → Says n s → leadingZero s ≡ false
-no-leading-zero n s r = go (dec_lt 0 n)
+no_leading_zero : (n : ℕ) (s : List ℕ) → Says n s → leading_zero s ≡ false
+no_leading_zero n s r = go (dec_lt 0 n)
   where
-    go : Dec (0 < n) → leadingZero s ≡ false
-    go (yes l) = rw (ne_eqb (get_or s 0 0) digitZero (r.first l), and-false)
+    go : Dec (0 < n) → leading_zero s ≡ false
+    go (yes l) = rw (ne_eqb (get_or s 0 0) digit_zero (r.first l), and-false)
     go (no g) = rw (lt-leb 2 (length s) (omega (arith, r.alone (omega arith))))
 
-says-read : (n : ℕ) (s : List ℕ) → Says n s → length s ≤ maxDigits → n ≤ maxNumber → readNumber s ≡ NumberRead.Is n
-unfolding readNumber isNumber
-says-read n s r short most =
-    simp (le-leb 1 (length s) r.some, le-leb (length s) maxDigits short, r.all, no-leading-zero n s r, r.value, le-leb n maxNumber most)
+says_read : (n : ℕ) (s : List ℕ) → Says n s → length s ≤ max_digits → n ≤ max_number → read_number s ≡ NumberRead.Is n
+unfolding read_number is_number
+says_read n s r short most =
+    simp (le-leb 1 (length s) r.some, le-leb (length s) max_digits short, r.all, no_leading_zero n s r, r.value, le-leb n max_number most)
 
-pub decimal-read : (n : ℕ) → n ≤ maxNumber → readNumber (decimal n) ≡ NumberRead.Is n
+pub decimal_read : (n : ℕ) → n ≤ max_number → read_number (decimal n) ≡ NumberRead.Is n
 unfolding decimal
-decimal-read n most = says-read n (digits maxDigits n) (digits-say maxDigits n (omega arith) (omega arith)) (digits-short maxDigits n) most
+decimal_read n most = says_read n (digits max_digits n) (digits_say max_digits n (omega arith) (omega arith)) (digits_short max_digits n) most

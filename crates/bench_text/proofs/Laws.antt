@@ -4,11 +4,11 @@ use mathlib.Core.List.{◌++◌, append_assoc}
 use Rattle.script.specs.Parts.{comma, newline}
 use Rattle.bench_text.specs.declared.ListingLine.{ListingLine}
 use Rattle.bench_text.specs.declared.Shown.{Shown}
-use Rattle.bench_text.specs.Text.{lineText}
-use Rattle.bench_text.specs.InnerText.{twoText, threeText}
+use Rattle.bench_text.specs.Text.{line_text}
+use Rattle.bench_text.specs.InnerText.{two_text, three_text}
 
-pub line-threes : (r : ListingLine)
-    → lineText r
-    ≡ threeText (Shown.Number r.index) (Shown.Letter r.letter) r.unit comma ++ threeText (Shown.Number r.number) r.sent r.decision newline
-unfolding lineText threeText twoText
-line-threes r = simp append_assoc
+pub line_threes : (r : ListingLine)
+    → line_text r
+    ≡ three_text (Shown.Number r.index) (Shown.Letter r.letter) r.unit comma ++ three_text (Shown.Number r.number) r.sent r.decision newline
+unfolding line_text three_text two_text
+line_threes r = simp append_assoc

@@ -2,8 +2,8 @@
 #![tactic(auto)]
 
 ghost use Rattle.std.specs.Prelude.{◌+◌, ◌≤◌, ◌<◌, ◌^◌, [], ◌∷◌, length};
-ghost use Rattle.bench_text.specs.Text.{digits, decimal, shownText, fieldText, headerText, lineText, endText};
-ghost use Rattle.bench_text.specs.InnerText.{twoText, threeText, Puts};
+ghost use Rattle.bench_text.specs.Text.{digits, decimal, shown_text, field_text, header_text, line_text, end_text};
+ghost use Rattle.bench_text.specs.InnerText.{two_text, three_text, Puts};
 
 use bench_script::{numbers, parts};
 
@@ -58,10 +58,10 @@ fn put_number(out: &mut [u8], at: usize, n: u32) -> usize
     put_digits(out, at, n, numbers::MAX_DIGITS)
 }
 
-#[tactic(auto, unfolding(crate::specs::Text::shownText))]
+#[tactic(auto, unfolding(crate::specs::Text::shown_text))]
 fn put_shown(out: &mut [u8], at: usize, s: Shown) -> usize
-    requires { at + length (shownText s) ≤ length out.old }
-    ensures { Puts out.old at (shownText s) out.new result }
+    requires { at + length (shown_text s) ≤ length out.old }
+    ensures { Puts out.old at (shown_text s) out.new result }
 {
     match s {
         Shown::Dash => put_byte(out, at, b'-'),
@@ -71,39 +71,39 @@ fn put_shown(out: &mut [u8], at: usize, s: Shown) -> usize
 }
 
 // A field and the byte after it.
-#[tactic(auto, unfolding(crate::specs::Text::fieldText))]
+#[tactic(auto, unfolding(crate::specs::Text::field_text))]
 fn put_field(out: &mut [u8], at: usize, s: Shown, b: u8) -> usize
-    requires { at + length (fieldText s b) ≤ length out.old }
-    ensures { Puts out.old at (fieldText s b) out.new result }
+    requires { at + length (field_text s b) ≤ length out.old }
+    ensures { Puts out.old at (field_text s b) out.new result }
 {
     let e = put_shown(out, at, s);
     put_byte(out, e, b)
 }
 
 // Two fields of a line, and the byte after them.
-#[tactic(auto, unfolding(crate::specs::InnerText::twoText))]
+#[tactic(auto, unfolding(crate::specs::InnerText::two_text))]
 fn put_two(out: &mut [u8], at: usize, a: Shown, b: Shown, stop: u8) -> usize
-    requires { at + length (twoText a b stop) ≤ length out.old }
-    ensures { Puts out.old at (twoText a b stop) out.new result }
+    requires { at + length (two_text a b stop) ≤ length out.old }
+    ensures { Puts out.old at (two_text a b stop) out.new result }
 {
     let p = put_field(out, at, a, parts::COMMA);
     put_field(out, p, b, stop)
 }
 
 // Three fields of a line, and the byte after them.
-#[tactic(auto, unfolding(crate::specs::InnerText::threeText))]
+#[tactic(auto, unfolding(crate::specs::InnerText::three_text))]
 fn put_three(out: &mut [u8], at: usize, a: Shown, b: Shown, c: Shown, stop: u8) -> usize
-    requires { at + length (threeText a b c stop) ≤ length out.old }
-    ensures { Puts out.old at (threeText a b c stop) out.new result }
+    requires { at + length (three_text a b c stop) ≤ length out.old }
+    ensures { Puts out.old at (three_text a b c stop) out.new result }
 {
     let p = put_field(out, at, a, parts::COMMA);
     put_two(out, p, b, c, stop)
 }
 
-#[tactic(auto, unfolding(crate::specs::Text::headerText, crate::specs::InnerText::threeText, crate::specs::InnerText::twoText))]
+#[tactic(auto, unfolding(crate::specs::Text::header_text, crate::specs::InnerText::three_text, crate::specs::InnerText::two_text))]
 pub fn put_header(out: &mut [u8], at: usize, letter: u8, n: u32, entry: u32) -> usize
-    requires { at + length (headerText letter n entry) ≤ length out.old }
-    ensures { Puts out.old at (headerText letter n entry) out.new result }
+    requires { at + length (header_text letter n entry) ≤ length out.old }
+    ensures { Puts out.old at (header_text letter n entry) out.new result }
 {
     put_three(
         out,
@@ -115,10 +115,10 @@ pub fn put_header(out: &mut [u8], at: usize, letter: u8, n: u32, entry: u32) -> 
     )
 }
 
-#[tactic(auto, unfolding(crate::specs::Text::lineText, crate::specs::InnerText::threeText, crate::specs::InnerText::twoText))]
+#[tactic(auto, unfolding(crate::specs::Text::line_text, crate::specs::InnerText::three_text, crate::specs::InnerText::two_text))]
 pub fn put_line(out: &mut [u8], at: usize, line: ListingLine) -> usize
-    requires { at + length (lineText line) ≤ length out.old }
-    ensures { Puts out.old at (lineText line) out.new result }
+    requires { at + length (line_text line) ≤ length out.old }
+    ensures { Puts out.old at (line_text line) out.new result }
 {
     let unit = line.unit;
     let sent = line.sent;
@@ -154,10 +154,10 @@ fn put_text(out: &mut [u8], at: usize, s: &[u8]) -> usize
 }
 
 // The final line.
-#[tactic(auto, unfolding(crate::specs::Text::endText, crate::specs::InnerText::twoText))]
+#[tactic(auto, unfolding(crate::specs::Text::end_text, crate::specs::InnerText::two_text))]
 pub fn put_end(out: &mut [u8], at: usize, events: u32, kept: u32) -> usize
-    requires { at + length (endText events kept) ≤ length out.old }
-    ensures { Puts out.old at (endText events kept) out.new result }
+    requires { at + length (end_text events kept) ≤ length out.old }
+    ensures { Puts out.old at (end_text events kept) out.new result }
 {
     let p = put_text(out, at, &END);
     put_two(

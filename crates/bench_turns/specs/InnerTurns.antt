@@ -1,69 +1,69 @@
 -- What inner functions promise, of which no public call's contract speaks: an event as a turn of its unit. Assumes nothing.
 use Rattle.std.specs.Prelude.{ℕ, Bool, true, false, cond, ltb, eqb}
 use Rattle.tally.specs.Limits.{Limits, places}
-use Rattle.tally.specs.Refusal.{numberOf}
+use Rattle.tally.specs.Refusal.{number_of}
 use Rattle.tally.specs.declared.Estimate.{Estimate}
 use Rattle.tally.specs.declared.Estimate.TheVariants.{Blank}
 use Rattle.tally.specs.declared.Refusal.{Refusal}
-use Rattle.contents.specs.Messages.{isEmpty}
+use Rattle.contents.specs.Messages.{is_empty}
 use Rattle.contents.specs.declared.Message.{Message}
-use Rattle.consensus.specs.Methods.{refuses, unless, propose, deliver, keyOff, keyOn}
+use Rattle.consensus.specs.Methods.{refuses, unless, propose, deliver, key_off, key_on}
 use Rattle.consensus.specs.declared.Answer.{Answer}
 use Rattle.consensus.specs.declared.Unit as U
 use Rattle.script.specs.declared.ScriptEvent.{ScriptEvent}
-use Rattle.bench_play.specs.Bench.{noPlaceLeft}
-use Rattle.bench_play.specs.Play.{deliveryConditions, cutShort}
+use Rattle.bench_play.specs.Bench.{no_place_left}
+use Rattle.bench_play.specs.Play.{delivery_conditions, cut_short}
 use Rattle.bench_play.specs.declared.Sent.{Sent}
 use Rattle.bench_turns.specs.declared.LineOutcome.{LineOutcome}
 
 -- ---- what an event takes of the bench: its unit, and the message at this place
 
 -- a place's number, or the first
-abbrev pub placeOrFirst : ℕ → ℕ
-placeOrFirst k = cond (ltb k places) k 0
+abbrev pub place_or_first : ℕ → ℕ
+place_or_first k = cond (ltb k places) k 0
 
-abbrev pub eventPlace : ScriptEvent → ℕ
-eventPlace ScriptEvent.Malformed = 0
-eventPlace (ScriptEvent.Propose u v) = 0
-eventPlace (ScriptEvent.Deliver u k) = placeOrFirst k
-eventPlace (ScriptEvent.Cut u k) = placeOrFirst k
-eventPlace (ScriptEvent.KeyOff u) = 0
-eventPlace (ScriptEvent.KeyOn u) = 0
+abbrev pub event_place : ScriptEvent → ℕ
+event_place ScriptEvent.Malformed = 0
+event_place (ScriptEvent.Propose u v) = 0
+event_place (ScriptEvent.Deliver u k) = place_or_first k
+event_place (ScriptEvent.Cut u k) = place_or_first k
+event_place (ScriptEvent.KeyOff u) = 0
+event_place (ScriptEvent.KeyOn u) = 0
 
 -- ---- what its unit x answers, with that many messages kept and m at that place
 
-unfoldable pub turnDelivery : Limits → U.Unit → ℕ → Message → ℕ → Answer
-turnDelivery l x kept m k = unless (deliveryConditions x kept k) x (deliver l x m)
+unfoldable pub turn_delivery : Limits → U.Unit → ℕ → Message → ℕ → Answer
+turn_delivery l x kept m k = unless (delivery_conditions x kept k) x (deliver l x m)
 
 unfoldable pub turn : Limits → U.Unit → ℕ → Message → ScriptEvent → Answer
 turn l x kept m ScriptEvent.Malformed = refuses x Refusal.Line
 turn l x kept m (ScriptEvent.Propose u v) = propose l x v
-turn l x kept m (ScriptEvent.Deliver u k) = turnDelivery l x kept m k
-turn l x kept m (ScriptEvent.Cut u k) = cutShort (turnDelivery l x kept m k)
-turn l x kept m (ScriptEvent.KeyOff u) = keyOff x
-turn l x kept m (ScriptEvent.KeyOn u) = keyOn x
+turn l x kept m (ScriptEvent.Deliver u k) = turn_delivery l x kept m k
+turn l x kept m (ScriptEvent.Cut u k) = cut_short (turn_delivery l x kept m k)
+turn l x kept m (ScriptEvent.KeyOff u) = key_off x
+turn l x kept m (ScriptEvent.KeyOn u) = key_on x
 
 -- ---- what comes of it
 
-abbrev pub refusedOutcome : Refusal → LineOutcome
-refusedOutcome k = record { refusal = k; sent = Sent.Nothing; decision = Blank }
+abbrev pub refused_outcome : Refusal → LineOutcome
+refused_outcome k = record { refusal = k; sent = Sent.Nothing; decision = Blank }
 
-abbrev pub acceptedOutcome : Sent → Estimate → LineOutcome
-acceptedOutcome s d = record { refusal = Refusal.None; sent = s; decision = d }
+abbrev pub accepted_outcome : Sent → Estimate → LineOutcome
+accepted_outcome s d = record { refusal = Refusal.None; sent = s; decision = d }
 
 -- what comes of an answer, with that many messages kept: as `send` and `settle` say, without the bench
-abbrev pub sendOutcome : ℕ → Estimate → LineOutcome
-sendOutcome kept d = cond (noPlaceLeft kept) (refusedOutcome Refusal.Full) (acceptedOutcome (Sent.At kept) d)
+abbrev pub send_outcome : ℕ → Estimate → LineOutcome
+send_outcome kept d = cond (no_place_left kept) (refused_outcome Refusal.Full) (accepted_outcome (Sent.At kept) d)
 
-unfoldable pub outcomeOf : ℕ → Answer → LineOutcome
-outcomeOf kept a =
-    cond (eqb (numberOf a.refusal) 0)
-    (cond (isEmpty a.message.kind) (acceptedOutcome Sent.Nothing a.decision) (sendOutcome kept a.decision))
-    (refusedOutcome a.refusal)
+unfoldable pub outcome_of : ℕ → Answer → LineOutcome
+outcome_of kept a =
+    cond (eqb (number_of a.refusal) 0)
+    (cond (is_empty a.message.kind) (accepted_outcome Sent.Nothing a.decision) (send_outcome kept a.decision))
+    (refused_outcome a.refusal)
 
-abbrev pub isAccepted : LineOutcome → Bool
-isAccepted o = eqb (numberOf o.refusal) 0
+abbrev pub is_accepted : LineOutcome → Bool
+is_accepted o = eqb (number_of o.refusal) 0
 
-abbrev pub isSent : Sent → Bool
-isSent Sent.Nothing = false
-isSent (Sent.At k) = true
+abbrev pub is_sent : Sent → Bool
+is_sent Sent.Nothing = false
+is_sent (Sent.At k) = true

@@ -3,12 +3,12 @@
 
 ghost use Rattle.std.specs.Prelude.{◌≡◌};
 ghost use Rattle.tally.specs.Limits.{today, senders};
-ghost use Rattle.script.specs.Script.{eventUnit};
+ghost use Rattle.script.specs.Script.{event_unit};
 ghost use Rattle.consensus.specs.Step.{fresh};
-ghost use Rattle.bench_play.specs.Bench.{headerSettings, freshUnits, start, noPlaceLeft};
-ghost use Rattle.bench_play.specs.Play.{cutShort};
-ghost use Rattle.bench_turns.specs.InnerTurns.{placeOrFirst, eventPlace, turnDelivery, turn};
-ghost use Rattle.bench_turns.specs.InnerTurns.{refusedOutcome, acceptedOutcome, sendOutcome, outcomeOf, isAccepted, isSent};
+ghost use Rattle.bench_play.specs.Bench.{header_settings, fresh_units, start, no_place_left};
+ghost use Rattle.bench_play.specs.Play.{cut_short};
+ghost use Rattle.bench_turns.specs.InnerTurns.{place_or_first, event_place, turn_delivery, turn};
+ghost use Rattle.bench_turns.specs.InnerTurns.{refused_outcome, accepted_outcome, send_outcome, outcome_of, is_accepted, is_sent};
 
 use bench_play::{Bench, Sent};
 use consensus::{Answer, Unit, methods, step};
@@ -20,7 +20,7 @@ use tally::{Estimate, Refusal, limits};
 // ---- at the start
 
 fn fresh_unit(h: Header, unit: u8) -> Unit
-    ensures { result ≡ fresh (headerSettings h unit) }
+    ensures { result ≡ fresh (header_settings h unit) }
 {
     let engine = h.engine;
     Unit::fresh(Settings {
@@ -32,9 +32,9 @@ fn fresh_unit(h: Header, unit: u8) -> Unit
 }
 
 // The units, each with its own number.
-#[tactic(auto, unfolding(bench_play::specs::Bench::freshUnits))]
+#[tactic(auto, unfolding(bench_play::specs::Bench::fresh_units))]
 fn fresh_units(h: Header) -> [Unit; limits::SENDERS]
-    ensures { result ≡ freshUnits h senders }
+    ensures { result ≡ fresh_units h senders }
 {
     let mut units = [fresh_unit(h, 0); limits::SENDERS];
     let mut i: u8 = 0;
@@ -60,7 +60,7 @@ pub fn start(h: Header) -> Bench
 // ---- what an event takes of the bench
 
 pub fn event_unit(e: ScriptEvent) -> usize
-    ensures { result ≡ eventUnit e }
+    ensures { result ≡ event_unit e }
 {
     match e {
         ScriptEvent::Malformed => 0,
@@ -73,7 +73,7 @@ pub fn event_unit(e: ScriptEvent) -> usize
 }
 
 fn place_or_first(k: u32) -> usize
-    ensures { result ≡ placeOrFirst k }
+    ensures { result ≡ place_or_first k }
 {
     let k = k as usize;
     if k < limits::PLACES { k } else { 0 }
@@ -81,7 +81,7 @@ fn place_or_first(k: u32) -> usize
 
 // The place of the message that an event takes; the first where it takes none, or one that no place has.
 pub fn event_place(e: ScriptEvent) -> usize
-    ensures { result ≡ eventPlace e }
+    ensures { result ≡ event_place e }
 {
     match e {
         ScriptEvent::Malformed => 0,
@@ -97,7 +97,7 @@ pub fn event_place(e: ScriptEvent) -> usize
 
 // A delivery of message number k, which is m if it was sent: 9 and 10 come before the unit's own numbers.
 fn turn_delivery(unit: Unit, kept: u32, m: Message, k: u32) -> Answer
-    ensures { result ≡ turnDelivery today unit kept m k }
+    ensures { result ≡ turn_delivery today unit kept m k }
 {
     let power = unit.power;
     if !methods::is_up(power) {
@@ -110,9 +110,9 @@ fn turn_delivery(unit: Unit, kept: u32, m: Message, k: u32) -> Answer
 }
 
 // The key goes off after the log write: nothing is sent or decided.
-#[tactic(auto, unfolding(bench_play::specs::Play::cutShort))]
+#[tactic(auto, unfolding(bench_play::specs::Play::cut_short))]
 fn cut_short(a: Answer) -> Answer
-    ensures { result ≡ cutShort a }
+    ensures { result ≡ cut_short a }
 {
     let why = a.refusal;
     if tally::number(why) == 0 {
@@ -149,7 +149,7 @@ pub struct LineOutcome {
 }
 
 fn refused_outcome(refusal: Refusal) -> LineOutcome
-    ensures { result ≡ refusedOutcome refusal }
+    ensures { result ≡ refused_outcome refusal }
 {
     LineOutcome {
         refusal,
@@ -159,7 +159,7 @@ fn refused_outcome(refusal: Refusal) -> LineOutcome
 }
 
 fn accepted_outcome(sent: Sent, decision: Estimate) -> LineOutcome
-    ensures { result ≡ acceptedOutcome sent decision }
+    ensures { result ≡ accepted_outcome sent decision }
 {
     LineOutcome {
         refusal: Refusal::None,
@@ -168,16 +168,16 @@ fn accepted_outcome(sent: Sent, decision: Estimate) -> LineOutcome
     }
 }
 
-#[tactic(auto, unfolding(bench_play::specs::Bench::noPlaceLeft))]
+#[tactic(auto, unfolding(bench_play::specs::Bench::no_place_left))]
 fn no_place_left(kept: u32) -> bool
-    ensures { result ≡ noPlaceLeft kept }
+    ensures { result ≡ no_place_left kept }
 {
     limits::PLACES as u32 <= kept
 }
 
 // Of an answer that sends, with that many messages kept: 11 is last, and refuses the whole event.
 fn send_outcome(kept: u32, decision: Estimate) -> LineOutcome
-    ensures { result ≡ sendOutcome kept decision }
+    ensures { result ≡ send_outcome kept decision }
 {
     if no_place_left(kept) {
         refused_outcome(Refusal::Full)
@@ -187,9 +187,9 @@ fn send_outcome(kept: u32, decision: Estimate) -> LineOutcome
 }
 
 // What comes of a unit's answer, with that many messages kept.
-#[tactic(auto, unfolding(crate::specs::InnerTurns::outcomeOf))]
+#[tactic(auto, unfolding(crate::specs::InnerTurns::outcome_of))]
 pub fn outcome_of(kept: u32, a: Answer) -> LineOutcome
-    ensures { result ≡ outcomeOf kept a }
+    ensures { result ≡ outcome_of kept a }
 {
     let refusal = a.refusal;
     let message = a.message;
@@ -207,7 +207,7 @@ pub fn outcome_of(kept: u32, a: Answer) -> LineOutcome
 }
 
 pub fn is_accepted(o: LineOutcome) -> bool
-    ensures { result ≡ isAccepted o }
+    ensures { result ≡ is_accepted o }
 {
     let refusal = o.refusal;
     let number = tally::number(refusal);
@@ -215,7 +215,7 @@ pub fn is_accepted(o: LineOutcome) -> bool
 }
 
 pub fn is_sent(o: LineOutcome) -> bool
-    ensures { result ≡ isSent o.sent }
+    ensures { result ≡ is_sent o.sent }
 {
     let sent = o.sent;
     match sent {

@@ -6,32 +6,32 @@ use mathlib.Core.List.{List}
 use native.Mathlib.Omega.{arith}
 use lib.ListN.{length}
 use borrow.Author.Tests.{eqb-true, lt-ltb, not-false}
-use Rattle.contents.specs.Messages.{messageOk, emptyMessage}
-use Rattle.tally.specs.Limits.{Limits, Sane, logSize, imageSize, messageSize}
-use Rattle.tally.specs.Refusal.{numberOf}
+use Rattle.contents.specs.Messages.{message_ok, empty_message}
+use Rattle.tally.specs.Limits.{Limits, Sane, log_size, image_size, message_size}
+use Rattle.tally.specs.Refusal.{number_of}
 use Rattle.tally.specs.declared.Refusal.{Refusal}
-use Rattle.tally.proofs.Bounds.{entry-fits, units-fit, everyone-fits}
+use Rattle.tally.proofs.Bounds.{entry_fits, units_fit, everyone_fits}
 use Rattle.tally.proofs.Never.{never}
-use Rattle.contents.specs.Logs.{numbersOk}
+use Rattle.contents.specs.Logs.{numbers_ok}
 use Rattle.contents.specs.declared.Image.{Image}
 use Rattle.contents.specs.declared.Log.{Log}
 use Rattle.contents.specs.declared.Message.{Message}
-use Rattle.contents.proofs.Facts.{numbers-facts}
-use Rattle.formats.specs.Codes.{engineOf}
+use Rattle.contents.proofs.Facts.{numbers_facts}
+use Rattle.formats.specs.Codes.{engine_of}
 use Rattle.formats.specs.Formats.{reading}
-use Rattle.formats.specs.Images.{imageFormat, imageBytes}
-use Rattle.formats.specs.Logs.{logFormat, noLog, readLog}
-use Rattle.formats.specs.Messages.{messageFormat, readMessage}
+use Rattle.formats.specs.Images.{image_format, image_bytes}
+use Rattle.formats.specs.Logs.{log_format, no_log, read_log}
+use Rattle.formats.specs.Messages.{message_format, read_message}
 use Rattle.formats.specs.InnerFormats.{stored}
 use Rattle.formats.specs.declared.EngineRead.{EngineRead}
 use Rattle.formats.specs.declared.EngineRead.TheVariants.{Is, Unknown}
-use Rattle.formats.proofs.Letters.{letter-engine, letter-fits}
+use Rattle.formats.proofs.Letters.{letter_engine, letter_fits}
 use Rattle.formats.proofs.LogFormat as log
 use Rattle.formats.proofs.MessageFormat as message
-use Rattle.formats.proofs.RoundTrips.{refused-number, read-fields}
-use Rattle.formats.proofs.Steps.{stored-contents}
-use Rattle.calls.specs.Calls.{wrongLength, unitLengths, badLog, badSettings, badMessage, logBytes}
-use Rattle.calls.specs.InnerCalls.{settingsNarrow}
+use Rattle.formats.proofs.RoundTrips.{refused_number, read_fields}
+use Rattle.formats.proofs.Steps.{stored_contents}
+use Rattle.calls.specs.Calls.{wrong_length, unit_lengths, bad_log, bad_settings, bad_message, log_bytes}
+use Rattle.calls.specs.InnerCalls.{settings_narrow}
 
 neither : (a b : Bool) → (a || b) ≡ false → (a ≡ false) × (b ≡ false)
 neither false false e = (refl, refl)
@@ -43,64 +43,64 @@ neither false true e = never (sym e)
 
 module _ (engine n unit entry : ℕ) where
   -- a number that is too large is out of its range, or no engine's letter
-  pub settings-too-large : settingsNarrow engine n unit entry ≡ false → badSettings (engineOf engine) n unit entry ≡ true
-  unfolding settingsNarrow badSettings
-  settings-too-large h = go (engineOf engine) refl
+  pub settings_too_large : settings_narrow engine n unit entry ≡ false → bad_settings (engine_of engine) n unit entry ≡ true
+  unfolding settings_narrow bad_settings
+  settings_too_large h = go (engine_of engine) refl
     where
-      go : (o : EngineRead) → engineOf engine ≡ o → badSettings o n unit entry ≡ true
+      go : (o : EngineRead) → engine_of engine ≡ o → bad_settings o n unit entry ≡ true
       go Unknown e = refl
-      go (Is g) e = by (numbersOk n unit entry) refl
+      go (Is g) e = by (numbers_ok n unit entry) refl
         where
-          by : (b : Bool) → numbersOk n unit entry ≡ b → not b ≡ true
+          by : (b : Bool) → numbers_ok n unit entry ≡ b → not b ≡ true
           by false ok = refl
           by true ok =
-              let f = numbers-facts n unit entry ok in
-              let letter : engine < 256 ^ 1 = rw (← letter-engine engine g e) (letter-fits g) in
+              let f = numbers_facts n unit entry ok in
+              let letter : engine < 256 ^ 1 = rw (← letter_engine engine g e) (letter_fits g) in
               sym h
               ∙ rw (
                 lt-ltb engine (256 ^ 1) letter,
-                lt-ltb n (256 ^ 1) (omega (arith, f.n-high, units-fit, everyone-fits)),
-                lt-ltb unit (256 ^ 1) (omega (arith, f.below, f.n-high, units-fit, everyone-fits)),
-                lt-ltb entry (256 ^ 2) (omega (arith, f.entry-high, entry-fits)),
+                lt-ltb n (256 ^ 1) (omega (arith, f.n_high, units_fit, everyone_fits)),
+                lt-ltb unit (256 ^ 1) (omega (arith, f.below, f.n_high, units_fit, everyone_fits)),
+                lt-ltb entry (256 ^ 2) (omega (arith, f.entry_high, entry_fits)),
               )
 
 -- ---- what is read
 
 module _ (l : Limits) (sane : Sane l) (bs : List ℕ) where
-  pub log-refused : (k : Refusal) → reading (numberOf k) noLog ≡ readLog l bs → badLog l bs ≡ true
-  unfolding badLog readLog
-  log-refused k e = rw (← e, refused-number (logFormat l) (λ r. Unit) (log.lawful l sane) bs (numberOf k) (sym e))
+  pub log_refused : (k : Refusal) → reading (number_of k) no_log ≡ read_log l bs → bad_log l bs ≡ true
+  unfolding bad_log read_log
+  log_refused k e = rw (← e, refused_number (log_format l) (λ r. Unit) (log.lawful l sane) bs (number_of k) (sym e))
 
-  pub message-refused : (k : Refusal) → reading (numberOf k) emptyMessage ≡ readMessage l bs → badMessage l bs ≡ true
-  unfolding badMessage readMessage
-  message-refused k e = rw (← e, refused-number (messageFormat l) (λ m. Unit) (message.lawful l sane) bs (numberOf k) (sym e))
+  pub message_refused : (k : Refusal) → reading (number_of k) empty_message ≡ read_message l bs → bad_message l bs ≡ true
+  unfolding bad_message read_message
+  message_refused k e = rw (← e, refused_number (message_format l) (λ m. Unit) (message.lawful l sane) bs (number_of k) (sym e))
 
   -- a message that was read is well formed
-  pub message-ok : (m : Message) → reading 0 m ≡ readMessage l bs → messageOk l m ≡ true
-  unfolding readMessage
-  message-ok m e = (read-fields (messageFormat l) (λ m. Unit) (message.lawful l sane) bs m (sym e)).0
+  pub message_ok_lem : (m : Message) → reading 0 m ≡ read_message l bs → message_ok l m ≡ true
+  unfolding read_message
+  message_ok_lem m e = (read_fields (message_format l) (λ m. Unit) (message.lawful l sane) bs m (sym e)).0
 
 module _ (l : Limits) where
   -- ---- lengths
 
-  size : (bs : List ℕ) (k : ℕ) → wrongLength bs k ≡ false → length bs ≡ k
+  size : (bs : List ℕ) (k : ℕ) → wrong_length bs k ≡ false → length bs ≡ k
   size bs k e = eqb-true (length bs) k (not-false _ e)
 
-  pub unit-sizes : (log image : List ℕ) → unitLengths l log image ≡ false → (length log ≡ logSize l) × (length image ≡ imageSize l)
-  unfolding unitLengths
-  unit-sizes log image e =
-      let h = neither (wrongLength log (logSize l)) _ e in (size log (logSize l) h.0, size image (imageSize l) h.1)
+  pub unit_sizes : (log image : List ℕ) → unit_lengths l log image ≡ false → (length log ≡ log_size l) × (length image ≡ image_size l)
+  unfolding unit_lengths
+  unit_sizes log image e =
+      let h = neither (wrong_length log (log_size l)) _ e in (size log (log_size l) h.0, size image (image_size l) h.1)
 
   -- the output buffer is the last that is looked at
-  pub out-size : (others : Bool) (out : List ℕ) → (others || wrongLength out (messageSize l)) ≡ false → length out ≡ messageSize l
-  out-size others out e = size out (messageSize l) (neither others _ e).1
+  pub out_size : (others : Bool) (out : List ℕ) → (others || wrong_length out (message_size l)) ≡ false → length out ≡ message_size l
+  out_size others out e = size out (message_size l) (neither others _ e).1
 
   -- ---- what is stored
 
-  pub log-stored : (r : Log) (bs : List ℕ) → length bs ≡ logSize l → stored (logFormat l) r bs ≡ logBytes l r
-  unfolding logBytes
-  log-stored r bs e = stored-contents (logFormat l) bs r e
+  pub log_stored : (r : Log) (bs : List ℕ) → length bs ≡ log_size l → stored (log_format l) r bs ≡ log_bytes l r
+  unfolding log_bytes
+  log_stored r bs e = stored_contents (log_format l) bs r e
 
-  pub image-stored : (i : Image) (bs : List ℕ) → length bs ≡ imageSize l → stored (imageFormat l) i bs ≡ imageBytes l i
-  unfolding imageBytes
-  image-stored i bs e = stored-contents (imageFormat l) bs i e
+  pub image_stored : (i : Image) (bs : List ℕ) → length bs ≡ image_size l → stored (image_format l) i bs ≡ image_bytes l i
+  unfolding image_bytes
+  image_stored i bs e = stored_contents (image_format l) bs i e

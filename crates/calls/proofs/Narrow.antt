@@ -9,52 +9,52 @@ use lib.Dec.{ltb}
 use lib.ListN.{length, get_or, take, drop, length-append}
 use lib.Seq.{get_or_at, append_snoc}
 use borrow.Author.Tests.{lt-ltb}
-use Rattle.formats.specs.Formats.{reading, Format, withZero, without, checked, fromNumbers}
-use Rattle.formats.proofs.RoundTrips.{LawfulFormat, without-zero}
-use Rattle.formats.proofs.Packed.{Fit, fit-append}
-use Rattle.calls.specs.InnerFields.{narrow, headWidths}
+use Rattle.formats.specs.Formats.{reading, Format, with_zero, without, checked, from_numbers}
+use Rattle.formats.proofs.RoundTrips.{LawfulFormat, without_zero}
+use Rattle.formats.proofs.Packed.{Fit, fit_append}
+use Rattle.calls.specs.InnerFields.{narrow, head_widths}
 
 -- numbers that fit their widths are narrow
-fit-narrow : (ok : Bool) (ws vs p : List ℕ) (o k : ℕ) → length p ≡ o → Fit ws vs → narrow ok o (take k ws) (p ++ vs) ≡ ok
-fit-narrow ok ws vs p o zero e h = refl
-fit-narrow ok [] [] p o (suc k) e h = refl
-fit-narrow ok [] (v ∷ vs) p o (suc k) e h = absurd h
-fit-narrow ok (w ∷ ws) [] p o (suc k) e h = absurd h
-fit-narrow ok (w ∷ ws) (v ∷ vs) p o (suc k) e h =
+fit_narrow : (ok : Bool) (ws vs p : List ℕ) (o k : ℕ) → length p ≡ o → Fit ws vs → narrow ok o (take k ws) (p ++ vs) ≡ ok
+fit_narrow ok ws vs p o zero e h = refl
+fit_narrow ok [] [] p o (suc k) e h = refl
+fit_narrow ok [] (v ∷ vs) p o (suc k) e h = absurd h
+fit_narrow ok (w ∷ ws) [] p o (suc k) e h = absurd h
+fit_narrow ok (w ∷ ws) (v ∷ vs) p o (suc k) e h =
     let here : (ok && ltb (get_or (p ++ (v ∷ vs)) o 0) (256 ^ w)) ≡ ok = rw (get_or_at p v vs 0 o e, lt-ltb v (256 ^ w) h.0) (and-true ok) in
     ap (λ (b : Bool). narrow b (suc o) (take k ws) (p ++ (v ∷ vs))) here
-    ∙ rw (← append_snoc p v vs) (fit-narrow ok ws vs (p ++ (v ∷ [])) (suc o) k (simp length-append (omega arith)) h.1)
+    ∙ rw (← append_snoc p v vs) (fit_narrow ok ws vs (p ++ (v ∷ [])) (suc o) k (simp length-append (omega arith)) h.1)
 
-fit-take : (k : ℕ) (ws vs : List ℕ) → Fit ws vs → Fit (take k ws) (take k vs)
-fit-take zero ws vs h = tt
-fit-take (suc k) [] [] h = tt
-fit-take (suc k) [] (v ∷ vs) h = absurd h
-fit-take (suc k) (w ∷ ws) [] h = absurd h
-fit-take (suc k) (w ∷ ws) (v ∷ vs) h = (h.0, fit-take k ws vs h.1)
+fit_take : (k : ℕ) (ws vs : List ℕ) → Fit ws vs → Fit (take k ws) (take k vs)
+fit_take zero ws vs h = tt
+fit_take (suc k) [] [] h = tt
+fit_take (suc k) [] (v ∷ vs) h = absurd h
+fit_take (suc k) (w ∷ ws) [] h = absurd h
+fit_take (suc k) (w ∷ ws) (v ∷ vs) h = (h.0, fit_take k ws vs h.1)
 
-fit-drop : (k : ℕ) (ws vs : List ℕ) → Fit ws vs → Fit (drop k ws) (drop k vs)
-fit-drop zero ws vs h = h
-fit-drop (suc k) [] [] h = tt
-fit-drop (suc k) [] (v ∷ vs) h = absurd h
-fit-drop (suc k) (w ∷ ws) [] h = absurd h
-fit-drop (suc k) (w ∷ ws) (v ∷ vs) h = fit-drop k ws vs h.1
+fit_drop : (k : ℕ) (ws vs : List ℕ) → Fit ws vs → Fit (drop k ws) (drop k vs)
+fit_drop zero ws vs h = h
+fit_drop (suc k) [] [] h = tt
+fit_drop (suc k) [] (v ∷ vs) h = absurd h
+fit_drop (suc k) (w ∷ ws) [] h = absurd h
+fit_drop (suc k) (w ∷ ws) (v ∷ vs) h = fit_drop k ws vs h.1
 
 -- numbers of which one is too large for its bytes are refused
-pub too-large : {A : Type 0} (f : Format A) (law : LawfulFormat f (λ a. Unit)) (vs : List ℕ) (k : ℕ) → length vs ≡ f.fields
-    → narrow true 0 (headWidths f k) vs ≡ false → fromNumbers f vs ≡ reading f.malformed f.nothing
-too-large f law vs k len wide = go (f.parse vs) refl
+pub too_large : {A : Type 0} (f : Format A) (law : LawfulFormat f (λ a. Unit)) (vs : List ℕ) (k : ℕ) → length vs ≡ f.fields
+    → narrow true 0 (head_widths f k) vs ≡ false → from_numbers f vs ≡ reading f.malformed f.nothing
+too_large f law vs k len wide = go (f.parse vs) refl
   where
     z : ℕ
-    z = f.zeroAt
+    z = f.zero_at
 
-    fits : Fit f.widths (withZero z vs) → ⊥
+    fits : Fit f.widths (with_zero z vs) → ⊥
     fits h =
         let below : z ≤ length vs = omega (arith, law.counted, law.placed) in
-        let condition : Fit (without z f.widths) (without z (withZero z vs)) =
-        fit-append (take z f.widths) (drop (suc z) f.widths) (take z (withZero z vs)) (drop (suc z) (withZero z vs))
-        (fit-take z f.widths (withZero z vs) h)
-        (fit-drop (suc z) f.widths (withZero z vs) h) in
-        false≢true (sym wide ∙ fit-narrow true (without z f.widths) vs [] 0 k refl (rw (without-zero z vs below) at condition))
+        let condition : Fit (without z f.widths) (without z (with_zero z vs)) =
+        fit_append (take z f.widths) (drop (suc z) f.widths) (take z (with_zero z vs)) (drop (suc z) (with_zero z vs))
+        (fit_take z f.widths (with_zero z vs) h)
+        (fit_drop (suc z) f.widths (with_zero z vs) h) in
+        false≢true (sym wide ∙ fit_narrow true (without z f.widths) vs [] 0 k refl (rw (without_zero z vs below) at condition))
 
     go : (o : Option _) → f.parse vs ≡ o → checked f o ≡ reading f.malformed f.nothing
     go none p = refl

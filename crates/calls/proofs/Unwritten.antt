@@ -5,70 +5,70 @@ use mathlib.Core.Bool.{Bool, true, false, cond}
 use mathlib.Core.List.{List}
 use lib.Dec.{eqb}
 use borrow.Author.Tests.{eqb-false, not-false}
-use Rattle.tally.specs.Limits.{Limits, Sane, blankCode}
-use Rattle.tally.specs.Refusal.{numberOf}
+use Rattle.tally.specs.Limits.{Limits, Sane, blank_code}
+use Rattle.tally.specs.Refusal.{number_of}
 use Rattle.contents.specs.Images.{fits}
-use Rattle.contents.proofs.Tests.{both-true}
-use Rattle.formats.specs.Images.{imageFormat, readImage, imageBytes}
-use Rattle.formats.specs.Logs.{logFormat, readLog}
-use Rattle.formats.specs.Messages.{readMessage, cleared}
+use Rattle.contents.proofs.Tests.{both_true}
+use Rattle.formats.specs.Images.{image_format, read_image, image_bytes}
+use Rattle.formats.specs.Logs.{log_format, read_log}
+use Rattle.formats.specs.Messages.{read_message, cleared}
 use Rattle.formats.specs.Numbers.{Bytes}
 use Rattle.formats.proofs.ImageFormat as images
 use Rattle.formats.proofs.LogFormat as logs
-use Rattle.formats.proofs.RoundTrips.{written-read}
-use Rattle.consensus.specs.Conditions.{Condition, firstOf, NoneHolds}
+use Rattle.formats.proofs.RoundTrips.{written_read}
+use Rattle.consensus.specs.Conditions.{Condition, first_refusal, NoneHolds}
 use Rattle.consensus.specs.Step.{received}
-use Rattle.consensus.specs.Units.{unitLog, unitImage}
+use Rattle.consensus.specs.Units.{unit_log, unit_image}
 use Rattle.consensus.specs.declared.Answer.{Answer}
-use Rattle.consensus.proofs.Laws.{received-below}
-use Rattle.calls.specs.Calls.{CallAnswer, called, unlessRefused, badLog, badImage, logBytes, unitOf, deliverCallConditions, deliverCall}
-use Rattle.calls.proofs.Held.{was-read, fit-image}
-use Rattle.calls.proofs.Refusals.{deliver-refusing}
+use Rattle.consensus.proofs.Laws.{received_below}
+use Rattle.calls.specs.Calls.{CallAnswer, called, unless_refused, bad_log, bad_image, log_bytes, unit_of, deliver_call_conditions, deliver_call}
+use Rattle.calls.proofs.Held.{was_read, fit_image}
+use Rattle.calls.proofs.Refusals.{deliver_refusing}
 
 -- a call whose number is 0 gives its answer
-answers : (l : Limits) (cs : List Condition) (log image out : List ℕ) (ok : CallAnswer) → (unlessRefused l cs log image out ok).number ≡ 0
-    → unlessRefused l cs log image out ok ≡ ok
-answers l cs log image out ok = go (eqb (numberOf (firstOf cs)) 0) refl
+answers : (l : Limits) (cs : List Condition) (log image out : List ℕ) (ok : CallAnswer) → (unless_refused l cs log image out ok).number ≡ 0
+    → unless_refused l cs log image out ok ≡ ok
+answers l cs log image out ok = go (eqb (number_of (first_refusal cs)) 0) refl
   where
     refused : CallAnswer
-    refused = called (numberOf (firstOf cs)) log image (cleared l out) blankCode
+    refused = called (number_of (first_refusal cs)) log image (cleared l out) blank_code
 
-    go : (b : Bool) → eqb (numberOf (firstOf cs)) 0 ≡ b → (cond b ok refused).number ≡ 0 → cond b ok refused ≡ ok
+    go : (b : Bool) → eqb (number_of (first_refusal cs)) 0 ≡ b → (cond b ok refused).number ≡ 0 → cond b ok refused ≡ ok
     go true e h = refl
-    go false e h = absurd (eqb-false (numberOf (firstOf cs)) 0 e h)
+    go false e h = absurd (eqb-false (number_of (first_refusal cs)) 0 e h)
 
-module _ (l : Limits) (sane : Sane l) (log image message out : List ℕ) (number : (deliverCall l log image message out).number ≡ 0) where
-  cs : NoneHolds (deliverCallConditions l log image message out)
-  cs = (deliver-refusing l log image message out).number.accepted number
+module _ (l : Limits) (sane : Sane l) (log image message out : List ℕ) (number : (deliver_call l log image message out).number ≡ 0) where
+  cs : NoneHolds (deliver_call_conditions l log image message out)
+  cs = (deliver_refusing l log image message out).number.accepted number
 
-  pub log-stays : Bytes log → unitLog (received (unitOf l log image) (readMessage l message).contents).unit ≡ unitLog (unitOf l log image)
-      → (deliverCall l log image message out).log ≡ log
-  unfolding deliverCall deliverCallConditions badLog logBytes readLog
-  log-stays bytes same =
+  pub log_stays : Bytes log → unit_log (received (unit_of l log image) (read_message l message).contents).unit ≡ unit_log (unit_of l log image)
+      → (deliver_call l log image message out).log ≡ log
+  unfolding deliver_call deliver_call_conditions bad_log log_bytes read_log
+  log_stays bytes same =
       ap (λ (c : CallAnswer). c.log) (answers l _ log image out _ number)
-      ∙ ap (logBytes l) same
-      ∙ (written-read (logFormat l) (λ r. Unit) (logs.lawful l sane) log _ bytes (was-read (readLog l log) (not-false _ cs.1.0))).1
+      ∙ ap (log_bytes l) same
+      ∙ (written_read (log_format l) (λ r. Unit) (logs.lawful l sane) log _ bytes (was_read (read_log l log) (not-false _ cs.1.0))).1
 
   -- the image that was read has the log's settings
-  read-image : (eqb (readImage l image).number 0 ≡ true) × (unitImage (unitOf l log image) ≡ (readImage l image).contents)
-  unfolding deliverCallConditions badImage
-  read-image =
-      let i = (readImage l image).contents in
-      let a = both-true (eqb (readImage l image).number 0) (fits i (readLog l log).contents) (not-false _ cs.1.1.0) in
-      (a.0, fit-image i (readLog l log).contents a.1)
+  read_image_lem : (eqb (read_image l image).number 0 ≡ true) × (unit_image (unit_of l log image) ≡ (read_image l image).contents)
+  unfolding deliver_call_conditions bad_image
+  read_image_lem =
+      let i = (read_image l image).contents in
+      let a = both_true (eqb (read_image l image).number 0) (fits i (read_log l log).contents) (not-false _ cs.1.1.0) in
+      (a.0, fit_image i (read_log l log).contents a.1)
 
-  pub image-stays : Bytes image → unitImage (received (unitOf l log image) (readMessage l message).contents).unit ≡ unitImage (unitOf l log image)
-      → (deliverCall l log image message out).image ≡ image
-  unfolding deliverCall imageBytes readImage
-  image-stays bytes same =
+  pub image_stays : Bytes image → unit_image (received (unit_of l log image) (read_message l message).contents).unit ≡ unit_image (unit_of l log image)
+      → (deliver_call l log image message out).image ≡ image
+  unfolding deliver_call image_bytes read_image
+  image_stays bytes same =
       ap (λ (c : CallAnswer). c.image) (answers l _ log image out _ number)
-      ∙ ap (imageBytes l) (same ∙ read-image.1)
-      ∙ (written-read (imageFormat l) _ (images.lawful l sane) image _ bytes (was-read (readImage l image) read-image.0)).1
+      ∙ ap (image_bytes l) (same ∙ read_image_lem.1)
+      ∙ (written_read (image_format l) _ (images.lawful l sane) image _ bytes (was_read (read_image l image) read_image_lem.0)).1
 
   -- a message below the unit's round changes neither
-  pub below-stays : Bytes log → Bytes image → (readMessage l message).contents.round < (unitOf l log image).current.round
-      → ((deliverCall l log image message out).log ≡ log) × ((deliverCall l log image message out).image ≡ image)
-  below-stays a b h =
-      let u = unitOf l log image in
-      let same = received-below u.power u.settings u.logged u.current u.checks u.seconds (readMessage l message).contents h in
-      (log-stays a (ap (λ (x : Answer). unitLog x.unit) same), image-stays b (ap (λ (x : Answer). unitImage x.unit) same))
+  pub below_stays : Bytes log → Bytes image → (read_message l message).contents.round < (unit_of l log image).current.round
+      → ((deliver_call l log image message out).log ≡ log) × ((deliver_call l log image message out).image ≡ image)
+  below_stays a b h =
+      let u = unit_of l log image in
+      let same = received_below u.power u.settings u.logged u.current u.checks u.seconds (read_message l message).contents h in
+      (log_stays a (ap (λ (x : Answer). unit_log x.unit) same), image_stays b (ap (λ (x : Answer). unit_image x.unit) same))

@@ -1,27 +1,27 @@
 -- The four calls of a unit over bytes: the conditions that refuse, in order, and else the step. Assumes nothing.
 use Rattle.std.specs.Prelude.{ℕ, Bool, true, not, cond, ◌&&◌, ◌||◌, List, [], ◌∷◌, ◌≡◌, eqb, length}
-use Rattle.tally.specs.Limits.{Limits, blankCode, logSize, imageSize, messageSize}
-use Rattle.tally.specs.Refusal.{numberOf}
+use Rattle.tally.specs.Limits.{Limits, blank_code, log_size, image_size, message_size}
+use Rattle.tally.specs.Refusal.{number_of}
 use Rattle.tally.specs.declared.Engine.TheVariants.{B}
 use Rattle.tally.specs.declared.Refusal.{Refusal}
 use Rattle.contents.specs.Images.{fits}
-use Rattle.contents.specs.Logs.{numbersOk}
+use Rattle.contents.specs.Logs.{numbers_ok}
 use Rattle.contents.specs.declared.Kind.{Kind}
 use Rattle.contents.specs.declared.Kind.TheVariants.{Empty, First, Check, Second, Skip}
 use Rattle.contents.specs.declared.Log.{Log}
 use Rattle.contents.specs.declared.Message.{Message}
 use Rattle.contents.specs.declared.Settings.{Settings}
-use Rattle.formats.specs.Codes.{engineOf, codeOf}
-use Rattle.formats.specs.Formats.{ReadAnswer, toBytes}
-use Rattle.formats.specs.Images.{readImage, imageBytes}
-use Rattle.formats.specs.Logs.{logFormat, readLog}
-use Rattle.formats.specs.Messages.{messageFormat, readMessage, emptyBytes, cleared}
+use Rattle.formats.specs.Codes.{engine_of, code_of}
+use Rattle.formats.specs.Formats.{ReadAnswer, to_bytes}
+use Rattle.formats.specs.Images.{read_image, image_bytes}
+use Rattle.formats.specs.Logs.{log_format, read_log}
+use Rattle.formats.specs.Messages.{message_format, read_message, empty_bytes, cleared}
 use Rattle.formats.specs.declared.EngineRead.{EngineRead}
 use Rattle.formats.specs.declared.EngineRead.TheVariants.{Is, Unknown}
-use Rattle.consensus.specs.Methods.{forOther, outOfRange, closesLast}
-use Rattle.consensus.specs.Conditions.{Condition, condition, firstOf, LowestNumber}
+use Rattle.consensus.specs.Methods.{for_other, out_of_range, closes_last}
+use Rattle.consensus.specs.Conditions.{Condition, condition, first_refusal, LowestNumber}
 use Rattle.consensus.specs.Step.{fresh, recovered, proposed, received}
-use Rattle.consensus.specs.Units.{unitLog, unitImage, upUnit, downUnit}
+use Rattle.consensus.specs.Units.{unit_log, unit_image, up_unit, down_unit}
 use Rattle.consensus.specs.declared.Answer.{Answer}
 use Rattle.consensus.specs.declared.Unit as U
 
@@ -38,133 +38,133 @@ called k log image out d = record { number = k; log = log; image = image; out = 
 
 -- the first condition that holds gives its number: log and image keep their bytes, an output buffer of a message's length is zeros,
 -- one of another length keeps its bytes, and no decision is given; where no condition holds, the answer
-abbrev pub unlessRefused : Limits → List Condition → List ℕ → List ℕ → List ℕ → CallAnswer → CallAnswer
-unlessRefused l conditions log image out ok =
-    cond (eqb (numberOf (firstOf conditions)) 0) ok (called (numberOf (firstOf conditions)) log image (cleared l out) blankCode)
+abbrev pub unless_refused : Limits → List Condition → List ℕ → List ℕ → List ℕ → CallAnswer → CallAnswer
+unless_refused l conditions log image out ok =
+    cond (eqb (number_of (first_refusal conditions)) 0) ok (called (number_of (first_refusal conditions)) log image (cleared l out) blank_code)
 
 -- ---- the table's conditions
 
 -- 1: a buffer's length is wrong
-abbrev pub wrongLength : List ℕ → ℕ → Bool
-wrongLength bs k = not (eqb (length bs) k)
+abbrev pub wrong_length : List ℕ → ℕ → Bool
+wrong_length bs k = not (eqb (length bs) k)
 
 -- 1, of a unit's log and image
-unfoldable pub unitLengths : Limits → List ℕ → List ℕ → Bool
-unitLengths l log image = wrongLength log (logSize l) || wrongLength image (imageSize l)
+unfoldable pub unit_lengths : Limits → List ℕ → List ℕ → Bool
+unit_lengths l log image = wrong_length log (log_size l) || wrong_length image (image_size l)
 
 -- bytes that reading refuses
 abbrev pub unread : {A : Type 0} → ReadAnswer A → Bool
 unread r = not (eqb r.number 0)
 
 -- 2: log malformed
-unfoldable pub badLog : Limits → List ℕ → Bool
-badLog l log = unread (readLog l log)
+unfoldable pub bad_log : Limits → List ℕ → Bool
+bad_log l log = unread (read_log l log)
 
 -- 2: fresh-unit settings out of range; an unknown engine letter counts as such
-unfoldable pub badSettings : EngineRead → ℕ → ℕ → ℕ → Bool
-badSettings Unknown n unit entry = true
-badSettings (Is g) n unit entry = not (numbersOk n unit entry)
+unfoldable pub bad_settings : EngineRead → ℕ → ℕ → ℕ → Bool
+bad_settings Unknown n unit entry = true
+bad_settings (Is g) n unit entry = not (numbers_ok n unit entry)
 
 -- 3: image malformed or not fitting
-unfoldable pub badImage : Limits → List ℕ → List ℕ → Bool
-badImage l log image = not (eqb (readImage l image).number 0 && fits (readImage l image).contents (readLog l log).contents)
+unfoldable pub bad_image : Limits → List ℕ → List ℕ → Bool
+bad_image l log image = not (eqb (read_image l image).number 0 && fits (read_image l image).contents (read_log l log).contents)
 
 -- 4: message malformed
-unfoldable pub badMessage : Limits → List ℕ → Bool
-badMessage l message = unread (readMessage l message)
+unfoldable pub bad_message : Limits → List ℕ → Bool
+bad_message l message = unread (read_message l message)
 
 -- ---- the bytes that a call writes
 
-unfoldable pub logBytes : Limits → Log → List ℕ
-logBytes l r = toBytes (logFormat l) r
+unfoldable pub log_bytes : Limits → Log → List ℕ
+log_bytes l r = to_bytes (log_format l) r
 
 -- an empty message is zeros
-unfoldable pub messageBytes : Limits → Kind → Message → List ℕ
-messageBytes l Empty m = emptyBytes l
-messageBytes l First m = toBytes (messageFormat l) m
-messageBytes l Check m = toBytes (messageFormat l) m
-messageBytes l Second m = toBytes (messageFormat l) m
-messageBytes l Skip m = toBytes (messageFormat l) m
+unfoldable pub message_bytes : Limits → Kind → Message → List ℕ
+message_bytes l Empty m = empty_bytes l
+message_bytes l First m = to_bytes (message_format l) m
+message_bytes l Check m = to_bytes (message_format l) m
+message_bytes l Second m = to_bytes (message_format l) m
+message_bytes l Skip m = to_bytes (message_format l) m
 
 -- an answer as bytes, where the buffers' lengths are right
 abbrev pub answered : Limits → Answer → CallAnswer
 answered l a =
-    called (numberOf a.refusal) (logBytes l (unitLog a.unit)) (imageBytes l (unitImage a.unit)) (messageBytes l a.message.kind a.message)
-    (codeOf a.decision)
+    called (number_of a.refusal) (log_bytes l (unit_log a.unit)) (image_bytes l (unit_image a.unit)) (message_bytes l a.message.kind a.message)
+    (code_of a.decision)
 
 -- the up unit that a log and an image hold
-abbrev pub unitOf : Limits → List ℕ → List ℕ → U.Unit
-unitOf l log image = upUnit (readLog l log).contents (readImage l image).contents
+abbrev pub unit_of : Limits → List ℕ → List ℕ → U.Unit
+unit_of l log image = up_unit (read_log l log).contents (read_image l image).contents
 
 -- ---- the calls
 
 -- B stands in the place of an engine that is not known
-abbrev pub settingsFor : EngineRead → ℕ → ℕ → ℕ → Settings
-settingsFor Unknown n unit entry = record { engine = B; n = n; unit = unit; entry = entry }
-settingsFor (Is g) n unit entry = record { engine = g; n = n; unit = unit; entry = entry }
+abbrev pub settings_for : EngineRead → ℕ → ℕ → ℕ → Settings
+settings_for Unknown n unit entry = record { engine = B; n = n; unit = unit; entry = entry }
+settings_for (Is g) n unit entry = record { engine = g; n = n; unit = unit; entry = entry }
 
 -- 1 and 2
-unfoldable pub startCallConditions : Limits → ℕ → ℕ → ℕ → ℕ → List ℕ → List ℕ → List Condition
-startCallConditions l engine n unit entry log image =
-    condition Refusal.Length (unitLengths l log image)
-    ∷ condition Refusal.Log (badSettings (engineOf engine) n unit entry)
+unfoldable pub start_call_conditions : Limits → ℕ → ℕ → ℕ → ℕ → List ℕ → List ℕ → List Condition
+start_call_conditions l engine n unit entry log image =
+    condition Refusal.Length (unit_lengths l log image)
+    ∷ condition Refusal.Log (bad_settings (engine_of engine) n unit entry)
     ∷ []
 
 -- starting a unit writes its log and its image, and reads neither; the engine is its letter's number
-unfoldable pub startCall : Limits → ℕ → ℕ → ℕ → ℕ → List ℕ → List ℕ → CallAnswer
-startCall l engine n unit entry log image =
-    unlessRefused l (startCallConditions l engine n unit entry log image) log image []
-    (let u = fresh (settingsFor (engineOf engine) n unit entry) in called 0 (logBytes l (unitLog u)) (imageBytes l (unitImage u)) [] blankCode)
+unfoldable pub start_call : Limits → ℕ → ℕ → ℕ → ℕ → List ℕ → List ℕ → CallAnswer
+start_call l engine n unit entry log image =
+    unless_refused l (start_call_conditions l engine n unit entry log image) log image []
+    (let u = fresh (settings_for (engine_of engine) n unit entry) in called 0 (log_bytes l (unit_log u)) (image_bytes l (unit_image u)) [] blank_code)
 
 -- 1 and 2
-unfoldable pub keyOnCallConditions : Limits → List ℕ → List ℕ → List Condition
-keyOnCallConditions l log image =
-    condition Refusal.Length (unitLengths l log image)
-    ∷ condition Refusal.Log (badLog l log)
+unfoldable pub key_on_call_conditions : Limits → List ℕ → List ℕ → List Condition
+key_on_call_conditions l log image =
+    condition Refusal.Length (unit_lengths l log image)
+    ∷ condition Refusal.Log (bad_log l log)
     ∷ []
 
 -- key-on writes the image alone and does not read what it held
-unfoldable pub keyOnCall : Limits → List ℕ → List ℕ → CallAnswer
-keyOnCall l log image =
-    unlessRefused l (keyOnCallConditions l log image) log image []
-    (called 0 log (imageBytes l (unitImage (recovered (downUnit (readLog l log).contents)))) [] blankCode)
+unfoldable pub key_on_call : Limits → List ℕ → List ℕ → CallAnswer
+key_on_call l log image =
+    unless_refused l (key_on_call_conditions l log image) log image []
+    (called 0 log (image_bytes l (unit_image (recovered (down_unit (read_log l log).contents)))) [] blank_code)
 
 -- 1, 2, 3 and 6
-unfoldable pub proposeCallConditions : Limits → List ℕ → List ℕ → ℕ → List ℕ → List Condition
-proposeCallConditions l log image mileage out =
-    condition Refusal.Length (unitLengths l log image || wrongLength out (messageSize l))
-    ∷ condition Refusal.Log (badLog l log)
-    ∷ condition Refusal.Image (badImage l log image)
-    ∷ condition Refusal.Mileage (outOfRange l mileage)
+unfoldable pub propose_call_conditions : Limits → List ℕ → List ℕ → ℕ → List ℕ → List Condition
+propose_call_conditions l log image mileage out =
+    condition Refusal.Length (unit_lengths l log image || wrong_length out (message_size l))
+    ∷ condition Refusal.Log (bad_log l log)
+    ∷ condition Refusal.Image (bad_image l log image)
+    ∷ condition Refusal.Mileage (out_of_range l mileage)
     ∷ []
 
 -- no log write
-unfoldable pub proposeCall : Limits → List ℕ → List ℕ → ℕ → List ℕ → CallAnswer
-proposeCall l log image mileage out =
-    unlessRefused l (proposeCallConditions l log image mileage out) log image out
-    (let a = proposed (unitOf l log image) mileage in
-    called 0 log (imageBytes l (unitImage a.unit)) (messageBytes l a.message.kind a.message) blankCode)
+unfoldable pub propose_call : Limits → List ℕ → List ℕ → ℕ → List ℕ → CallAnswer
+propose_call l log image mileage out =
+    unless_refused l (propose_call_conditions l log image mileage out) log image out
+    (let a = proposed (unit_of l log image) mileage in
+    called 0 log (image_bytes l (unit_image a.unit)) (message_bytes l a.message.kind a.message) blank_code)
 
 -- 1, 2, 3, 4, 5 and 7
-unfoldable pub deliverCallConditions : Limits → List ℕ → List ℕ → List ℕ → List ℕ → List Condition
-deliverCallConditions l log image message out =
-    condition Refusal.Length (unitLengths l log image || wrongLength message (messageSize l) || wrongLength out (messageSize l))
-    ∷ condition Refusal.Log (badLog l log)
-    ∷ condition Refusal.Image (badImage l log image)
-    ∷ condition Refusal.Message (badMessage l message)
-    ∷ condition Refusal.Addressee (forOther (readLog l log).contents.settings (readMessage l message).contents)
-    ∷ condition Refusal.LastRound (closesLast l (unitOf l log image) (readMessage l message).contents)
+unfoldable pub deliver_call_conditions : Limits → List ℕ → List ℕ → List ℕ → List ℕ → List Condition
+deliver_call_conditions l log image message out =
+    condition Refusal.Length (unit_lengths l log image || wrong_length message (message_size l) || wrong_length out (message_size l))
+    ∷ condition Refusal.Log (bad_log l log)
+    ∷ condition Refusal.Image (bad_image l log image)
+    ∷ condition Refusal.Message (bad_message l message)
+    ∷ condition Refusal.Addressee (for_other (read_log l log).contents.settings (read_message l message).contents)
+    ∷ condition Refusal.LastRound (closes_last l (unit_of l log image) (read_message l message).contents)
     ∷ []
 
 -- the log is written too, as the step gives it
-unfoldable pub deliverCall : Limits → List ℕ → List ℕ → List ℕ → List ℕ → CallAnswer
-deliverCall l log image message out =
-    unlessRefused l (deliverCallConditions l log image message out) log image out
-    (let a = received (unitOf l log image) (readMessage l message).contents in
-    called 0 (logBytes l (unitLog a.unit)) (imageBytes l (unitImage a.unit)) (messageBytes l a.message.kind a.message) (codeOf a.decision))
+unfoldable pub deliver_call : Limits → List ℕ → List ℕ → List ℕ → List ℕ → CallAnswer
+deliver_call l log image message out =
+    unless_refused l (deliver_call_conditions l log image message out) log image out
+    (let a = received (unit_of l log image) (read_message l message).contents in
+    called 0 (log_bytes l (unit_log a.unit)) (image_bytes l (unit_image a.unit)) (message_bytes l a.message.kind a.message) (code_of a.decision))
 
 -- the number is 0 exactly where no condition holds, and else the lowest of one that does; after a refusal log and image keep their
 -- bytes, an output buffer of a message's length is zeros, one of another length keeps its bytes, and the decision is blank
 pub record Refusing (l : Limits) (conditions : List Condition) (log image out : List ℕ) (c : CallAnswer) : Type 0 where
   pub number : LowestNumber conditions c.number
-  pub refused : (c.number ≡ 0 → ⊥) → c ≡ called c.number log image (cleared l out) blankCode
+  pub refused : (c.number ≡ 0 → ⊥) → c ≡ called c.number log image (cleared l out) blank_code

@@ -1,12 +1,12 @@
 -- What inner functions of fields promise, of which no public call's contract speaks. Assumes nothing.
 use Rattle.std.specs.Prelude.{ℕ, suc, ◌-◌, ◌^◌, Bool, true, ◌&&◌, List, [], ◌∷◌, ltb, get_or, take}
-use Rattle.tally.specs.Limits.{Limits, logFields, messageFields}
+use Rattle.tally.specs.Limits.{Limits, log_fields, message_fields}
 use Rattle.formats.specs.Formats.{WriteAnswer, Format, without, checked}
-use Rattle.formats.specs.Logs.{logFormat}
-use Rattle.formats.specs.Messages.{lettersRead, messageFormat, cleared}
+use Rattle.formats.specs.Logs.{log_format}
+use Rattle.formats.specs.Messages.{letters_read, message_format, cleared}
 use Rattle.formats.specs.declared.EngineRead.{EngineRead}
 use Rattle.formats.specs.declared.KindRead.{KindRead}
-use Rattle.calls.specs.Fields.{putChecked}
+use Rattle.calls.specs.Fields.{put_checked}
 
 -- the numbers from place o on fit these many bytes each
 abbrev pub narrow : Bool → ℕ → List ℕ → List ℕ → Bool
@@ -14,23 +14,23 @@ narrow ok o [] vs = ok
 narrow ok o (w ∷ ws) vs = narrow (ok && ltb (get_or vs o 0) (256 ^ w)) (suc o) ws vs
 
 -- the widths of the first k numbers
-abbrev pub headWidths : {A : Type 0} → Format A → ℕ → List ℕ
-headWidths f k = take k (without f.zeroAt f.widths)
+abbrev pub head_widths : {A : Type 0} → Format A → ℕ → List ℕ
+head_widths f k = take k (without f.zero_at f.widths)
 
 -- all numbers of a log but its three estimates, which have the width of the numbers given
-abbrev pub logHead : ℕ
-logHead = logFields - 3
+abbrev pub log_head : ℕ
+log_head = log_fields - 3
 
-unfoldable pub logNarrow : Limits → List ℕ → Bool
-logNarrow l vs = narrow true 0 (headWidths (logFormat l) logHead) vs
+unfoldable pub log_narrow : Limits → List ℕ → Bool
+log_narrow l vs = narrow true 0 (head_widths (log_format l) log_head) vs
 
 -- all of a message but its two
-abbrev pub messageHead : ℕ
-messageHead = messageFields - 2
+abbrev pub message_head : ℕ
+message_head = message_fields - 2
 
-unfoldable pub messageNarrow : Limits → List ℕ → Bool
-messageNarrow l vs = narrow true 0 (headWidths (messageFormat l) messageHead) vs
+unfoldable pub message_narrow : Limits → List ℕ → Bool
+message_narrow l vs = narrow true 0 (head_widths (message_format l) message_head) vs
 
 -- writing a message whose letters have been looked up
-abbrev pub writeKnown : Limits → KindRead → EngineRead → List ℕ → List ℕ → WriteAnswer
-writeKnown l k e fs bs = putChecked (messageFormat l) (checked (messageFormat l) (lettersRead k e fs)) (cleared l bs)
+abbrev pub write_known : Limits → KindRead → EngineRead → List ℕ → List ℕ → WriteAnswer
+write_known l k e fs bs = put_checked (message_format l) (checked (message_format l) (letters_read k e fs)) (cleared l bs)

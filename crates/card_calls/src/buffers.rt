@@ -1,9 +1,9 @@
 // What the calls on a card ask of a row, from numbers and buffers, and how they store what is told.
 ghost use Rattle.std.specs.Prelude.{◌≡◌};
 ghost use Rattle.tally.specs.Limits.{today};
-ghost use Rattle.tally.specs.Refusal.{numberOf};
-ghost use Rattle.formats.specs.Codes.{codeOf};
-ghost use Rattle.cards.specs.InnerSteps.{cardCall, proposeAsks, deliverAsks, putMessage};
+ghost use Rattle.tally.specs.Refusal.{number_of};
+ghost use Rattle.formats.specs.Codes.{code_of};
+ghost use Rattle.cards.specs.InnerSteps.{card_call, propose_asks, deliver_asks, put_message};
 
 use cards::{Act, CardCall, Told, UnitStep};
 use contents::Message;
@@ -11,7 +11,7 @@ use formats::MessageRead;
 use tally::limits;
 
 fn card_call(engine: u32, n: u32, unit: u32, row: u32, act: Act) -> CardCall
-    ensures { result ≡ cardCall engine n unit row act }
+    ensures { result ≡ card_call engine n unit row act }
 {
     CardCall {
         engine,
@@ -24,21 +24,21 @@ fn card_call(engine: u32, n: u32, unit: u32, row: u32, act: Act) -> CardCall
 
 // ---- what is asked
 pub fn start_call(engine: u32, n: u32, unit: u32, row: u32) -> CardCall
-    ensures { result ≡ cardCall engine n unit row Act.Start }
+    ensures { result ≡ card_call engine n unit row Act.Start }
 {
     card_call(engine, n, unit, row, Act::Start)
 }
 
 pub fn key_on_call(engine: u32, n: u32, unit: u32, row: u32) -> CardCall
-    ensures { result ≡ cardCall engine n unit row Act.KeyOn }
+    ensures { result ≡ card_call engine n unit row Act.KeyOn }
 {
     card_call(engine, n, unit, row, Act::KeyOn)
 }
 
 // `size` is the output buffer's length.
-#[tactic(auto, unfolding(cards::specs::InnerSteps::proposeAsks))]
+#[tactic(auto, unfolding(cards::specs::InnerSteps::propose_asks))]
 pub fn propose_call(engine: u32, n: u32, unit: u32, row: u32, mileage: u32, size: usize) -> CardCall
-    ensures { result ≡ proposeAsks today engine n unit row mileage size }
+    ensures { result ≡ propose_asks today engine n unit row mileage size }
 {
     if size != limits::MESSAGE_SIZE {
         return card_call(engine, n, unit, row, Act::WrongLength);
@@ -47,9 +47,9 @@ pub fn propose_call(engine: u32, n: u32, unit: u32, row: u32, mileage: u32, size
     card_call(engine, n, unit, row, Act::Step(s))
 }
 
-#[tactic(auto, unfolding(cards::specs::InnerSteps::deliverAsks, calls::specs::Calls::badMessage))]
+#[tactic(auto, unfolding(cards::specs::InnerSteps::deliver_asks, calls::specs::Calls::bad_message))]
 pub fn deliver_call(engine: u32, n: u32, unit: u32, message: &[u8], size: usize) -> CardCall
-    ensures { result ≡ deliverAsks today engine n unit message.now size }
+    ensures { result ≡ deliver_asks today engine n unit message.now size }
 {
     if (message.len() != limits::MESSAGE_SIZE) | (size != limits::MESSAGE_SIZE) {
         return card_call(engine, n, unit, 0, Act::WrongLength);
@@ -64,9 +64,9 @@ pub fn deliver_call(engine: u32, n: u32, unit: u32, message: &[u8], size: usize)
 }
 
 // ---- what is told
-#[tactic(auto, unfolding(cards::specs::InnerSteps::putMessage))]
+#[tactic(auto, unfolding(cards::specs::InnerSteps::put_message))]
 fn put_message(m: Message, out: &mut [u8])
-    ensures { out.new ≡ putMessage today m out.old }
+    ensures { out.new ≡ put_message today m out.old }
 {
     let kind = m.kind;
     if rules::messages::is_empty(kind) {
@@ -77,7 +77,7 @@ fn put_message(m: Message, out: &mut [u8])
 }
 
 pub fn number_of(t: Told) -> u32
-    ensures { result ≡ numberOf t.refusal }
+    ensures { result ≡ number_of t.refusal }
 {
     let refusal = t.refusal;
     tally::number(refusal)
@@ -85,7 +85,7 @@ pub fn number_of(t: Told) -> u32
 
 // The message goes into the output buffer.
 pub fn tell_message(t: Told, out: &mut [u8]) -> u32
-    ensures { (result ≡ numberOf t.refusal) × (out.new ≡ putMessage today t.message out.old) }
+    ensures { (result ≡ number_of t.refusal) × (out.new ≡ put_message today t.message out.old) }
 {
     put_message(t.message, out);
     number_of(t)
@@ -93,8 +93,8 @@ pub fn tell_message(t: Told, out: &mut [u8]) -> u32
 
 // The decision too.
 pub fn tell(t: Told, out: &mut [u8], decision: &mut u32) -> u32
-    ensures { (result ≡ numberOf t.refusal) × ((out.new ≡ putMessage today t.message out.old)
-        × (decision.new ≡ codeOf t.decision)) }
+    ensures { (result ≡ number_of t.refusal) × ((out.new ≡ put_message today t.message out.old)
+        × (decision.new ≡ code_of t.decision)) }
 {
     let d = t.decision;
     *decision = codes::code_of(d);

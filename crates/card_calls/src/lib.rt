@@ -5,10 +5,10 @@ pub mod buffers;
 
 ghost use Rattle.std.specs.Prelude.{◌≡◌};
 ghost use Rattle.tally.specs.Limits.{today};
-ghost use Rattle.calls.specs.InnerCalls.{settingsNarrow};
-ghost use Rattle.cards.specs.Calls.{wrongCount, namesNoRow};
-ghost use Rattle.cards.specs.InnerSteps.{settingsRead, ownLog, tells, rowAnswer, rowAnswered, withLog, actOf, stepOf, isShort, isMalformed};
-ghost use Rattle.cards.specs.InnerSteps.{front, placeOf, cardTold, cardRows};
+ghost use Rattle.calls.specs.InnerCalls.{settings_narrow};
+ghost use Rattle.cards.specs.Calls.{wrong_count, names_no_row};
+ghost use Rattle.cards.specs.InnerSteps.{settings_read, own_log, tells, row_answer, row_answered, with_log, act_of, step_of, is_short, is_malformed};
+ghost use Rattle.cards.specs.InnerSteps.{front, place_of, card_told, card_rows};
 
 use cards::{Act, CardCall, CardRow, SettingsRead, Told, UnitStep};
 use consensus::{Answer, Unit, step};
@@ -17,9 +17,9 @@ use formats::{EngineRead, LogRead, StateRead};
 use tally::{Estimate, Refusal, limits};
 
 // ---- which row
-#[tactic(auto, unfolding(cards::specs::Calls::wrongCount))]
+#[tactic(auto, unfolding(cards::specs::Calls::wrong_count))]
 fn wrong_count(count: usize) -> bool
-    ensures { result ≡ wrongCount count }
+    ensures { result ≡ wrong_count count }
 {
     !((limits::MIN_ROWS <= count) & (count <= limits::MAX_ROWS))
 }
@@ -30,15 +30,15 @@ fn wide(x: u32) -> usize
     x as usize
 }
 
-#[tactic(auto, unfolding(cards::specs::Calls::namesNoRow))]
+#[tactic(auto, unfolding(cards::specs::Calls::names_no_row))]
 fn names_no_row(count: usize, k: u32) -> bool
-    ensures { result ≡ namesNoRow count k }
+    ensures { result ≡ names_no_row count k }
 {
     !((1 <= k) & (wide(k) <= count))
 }
 
 fn is_short(act: Act) -> bool
-    ensures { result ≡ isShort act }
+    ensures { result ≡ is_short act }
 {
     match act {
         Act::WrongLength => true,
@@ -50,7 +50,7 @@ fn is_short(act: Act) -> bool
 }
 
 fn is_malformed(act: Act) -> bool
-    ensures { result ≡ isMalformed act }
+    ensures { result ≡ is_malformed act }
 {
     match act {
         Act::WrongLength => false,
@@ -62,7 +62,7 @@ fn is_malformed(act: Act) -> bool
 }
 
 // Why a call has no row; None where it has one.
-#[tactic(auto, unfolding(cards::specs::InnerSteps::front, cards::specs::InnerSteps::frontConditions, consensus::specs::Conditions::firstOf))]
+#[tactic(auto, unfolding(cards::specs::InnerSteps::front, cards::specs::InnerSteps::front_conditions, consensus::specs::Conditions::first_refusal))]
 fn front(c: &CardCall, count: usize) -> Refusal
     ensures { result ≡ front c.now count }
 {
@@ -80,9 +80,9 @@ fn front(c: &CardCall, count: usize) -> Refusal
 }
 
 // Where the row of a call stands, or the count where there is none.
-#[tactic(auto, unfolding(cards::specs::InnerSteps::placeOf))]
+#[tactic(auto, unfolding(cards::specs::InnerSteps::place_of))]
 fn place(c: &CardCall, count: usize) -> usize
-    ensures { result ≡ placeOf c.now count }
+    ensures { result ≡ place_of c.now count }
 {
     if tally::number(front(c, count)) == 0 {
         wide(c.row) - 1
@@ -110,17 +110,17 @@ fn refused(c: &CardCall, count: usize) -> Told
 
 // ---- the step of a row
 // Do the settings beside the card fit their types?
-#[tactic(auto, unfolding(calls::specs::InnerCalls::settingsNarrow))]
+#[tactic(auto, unfolding(calls::specs::InnerCalls::settings_narrow))]
 fn narrow(c: &CardCall) -> bool
-    ensures { result ≡ settingsNarrow c.now.engine c.now.n c.now.unit c.now.row }
+    ensures { result ≡ settings_narrow c.now.engine c.now.n c.now.unit c.now.row }
 {
     (c.engine < 256) & (c.n < 256) & (c.unit < 256) & (c.row < 65536)
 }
 
 // The settings beside the card, with the row's number as the entry.
-#[tactic(auto, unfolding(calls::specs::Calls::badSettings, calls::specs::InnerCalls::settingsNarrow))]
+#[tactic(auto, unfolding(calls::specs::Calls::bad_settings, calls::specs::InnerCalls::settings_narrow))]
 fn settings_of(c: &CardCall) -> SettingsRead
-    ensures { result ≡ settingsRead c.now }
+    ensures { result ≡ settings_read c.now }
 {
     if !narrow(c) {
         return SettingsRead::Bad;
@@ -142,9 +142,9 @@ fn settings_of(c: &CardCall) -> SettingsRead
 }
 
 // The log of a row, of these settings.
-#[tactic(auto, unfolding(cards::specs::Calls::badRowLog, cards::specs::Rows::rowLog, cards::specs::Calls::otherRow))]
+#[tactic(auto, unfolding(cards::specs::Calls::bad_row_log, cards::specs::Rows::row_log, cards::specs::Calls::other_row))]
 fn own_log(c: &CardCall, r: &CardRow) -> LogRead
-    ensures { result ≡ ownLog today c.now r.now }
+    ensures { result ≡ own_log today c.now r.now }
 {
     let SettingsRead::Are(s) = settings_of(c) else {
         return LogRead::Refused(Refusal::Log);
@@ -162,7 +162,7 @@ fn own_log(c: &CardCall, r: &CardRow) -> LogRead
 // An accepted answer changes the row.
 #[inline(always)]
 fn answered(row: &mut CardRow, a: &Answer) -> Told
-    ensures { rowAnswer row.new result ≡ rowAnswered row.old a.now }
+    ensures { row_answer row.new result ≡ row_answered row.old a.now }
 {
     let refusal = a.refusal;
     let message = a.message;
@@ -184,9 +184,9 @@ fn answered(row: &mut CardRow, a: &Answer) -> Told
     tells(refusal)
 }
 
-#[tactic(auto, unfolding(cards::specs::InnerSteps::stepConditions, cards::specs::InnerSteps::unlessRow, consensus::specs::Conditions::firstOf))]
+#[tactic(auto, unfolding(cards::specs::InnerSteps::step_conditions, cards::specs::InnerSteps::unless_row, consensus::specs::Conditions::first_refusal))]
 fn start(c: &CardCall, r: &mut CardRow) -> Told
-    ensures { rowAnswer r.new result ≡ actOf today Act.Start c.now r.old }
+    ensures { row_answer r.new result ≡ act_of today Act.Start c.now r.old }
 {
     match settings_of(c) {
         SettingsRead::Bad => tells(Refusal::Log),
@@ -198,7 +198,7 @@ fn start(c: &CardCall, r: &mut CardRow) -> Told
 }
 
 fn key_on(c: &CardCall, r: &mut CardRow) -> Told
-    ensures { rowAnswer r.new result ≡ actOf today Act.KeyOn c.now r.old }
+    ensures { row_answer r.new result ≡ act_of today Act.KeyOn c.now r.old }
 {
     match own_log(c, &*r) {
         LogRead::Refused(k) => tells(k),
@@ -211,7 +211,7 @@ fn key_on(c: &CardCall, r: &mut CardRow) -> Told
 
 // A step of the unit that a log and a row's image make.
 fn with_log(l: Log, r: &mut CardRow, s: UnitStep) -> Told
-    ensures { rowAnswer r.new result ≡ withLog today s l r.old }
+    ensures { row_answer r.new result ≡ with_log today s l r.old }
 {
     let StateRead::Fits(state) = card_rows::state_for(&*r, l) else {
         return tells(Refusal::Image);
@@ -230,7 +230,7 @@ fn with_log(l: Log, r: &mut CardRow, s: UnitStep) -> Told
 
 // A step of the row's unit.
 fn on_unit(c: &CardCall, r: &mut CardRow, s: UnitStep) -> Told
-    ensures { rowAnswer r.new result ≡ actOf today (Act.Step s) c.now r.old }
+    ensures { row_answer r.new result ≡ act_of today (Act.Step s) c.now r.old }
 {
     match own_log(c, &*r) {
         LogRead::Refused(k) => tells(k),
@@ -239,9 +239,9 @@ fn on_unit(c: &CardCall, r: &mut CardRow, s: UnitStep) -> Told
 }
 
 // The step on a row, which stays where it is refused.
-#[tactic(auto, unfolding(cards::specs::InnerSteps::stepOf))]
+#[tactic(auto, unfolding(cards::specs::InnerSteps::step_of))]
 fn step_row(c: &CardCall, r: &mut CardRow) -> Told
-    ensures { rowAnswer r.new result ≡ stepOf today c.now r.old }
+    ensures { row_answer r.new result ≡ step_of today c.now r.old }
 {
     let act = c.act;
     match act {
@@ -255,9 +255,9 @@ fn step_row(c: &CardCall, r: &mut CardRow) -> Told
 
 // ---- on the card
 // The row is copied out, the step taken, and the row stored back.
-#[tactic(auto, unfolding(cards::specs::InnerSteps::cardTold, cards::specs::InnerSteps::cardRows))]
+#[tactic(auto, unfolding(cards::specs::InnerSteps::card_told, cards::specs::InnerSteps::card_rows))]
 pub fn on_row(c: CardCall, rows: &mut [CardRow]) -> Told
-    ensures { (result ≡ cardTold today c rows.old) × (rows.new ≡ cardRows today c rows.old) }
+    ensures { (result ≡ card_told today c rows.old) × (rows.new ≡ card_rows today c rows.old) }
 {
     let k = place(&c, rows.len());
     if rows.len() <= k {

@@ -2,23 +2,23 @@
 use mathlib.Core.Path.{◌≡◌, refl}
 use mathlib.Core.Bool.{Bool, true, false, cond}
 use Rattle.tally.proofs.Never.{never}
-use Rattle.card_history.specs.Cards.{Stage, new, up, down, isNew, isUp, isDown}
+use Rattle.card_history.specs.Cards.{Stage, new, up, down, is_new, is_up, is_down}
 
-pub if-so : {A : Type 0} (P : A → Type 0) (b : Bool) (x y : A) → (b ≡ true → P x) → P y → P (cond b x y)
-if-so P true x y f p = f refl
-if-so P false x y f p = p
+pub if_so : {A : Type 0} (P : A → Type 0) (b : Bool) (x y : A) → (b ≡ true → P x) → P y → P (cond b x y)
+if_so P true x y f p = f refl
+if_so P false x y f p = p
 
-pub is-new : (s : Stage) → isNew s ≡ true → s ≡ new
-is-new new e = refl
-is-new up e = never e
-is-new down e = never e
+pub is_new_lem : (s : Stage) → is_new s ≡ true → s ≡ new
+is_new_lem new e = refl
+is_new_lem up e = never e
+is_new_lem down e = never e
 
-pub is-up : (s : Stage) → isUp s ≡ true → s ≡ up
-is-up new e = never e
-is-up up e = refl
-is-up down e = never e
+pub is_up_lem : (s : Stage) → is_up s ≡ true → s ≡ up
+is_up_lem new e = never e
+is_up_lem up e = refl
+is_up_lem down e = never e
 
-pub is-down : (s : Stage) → isDown s ≡ true → s ≡ down
-is-down new e = never e
-is-down up e = never e
-is-down down e = refl
+pub is_down_lem : (s : Stage) → is_down s ≡ true → s ≡ down
+is_down_lem new e = never e
+is_down_lem up e = never e
+is_down_lem down e = refl

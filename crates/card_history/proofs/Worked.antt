@@ -7,38 +7,40 @@ use mathlib.Core.List.{List, [], ◌∷◌}
 use lib.Count.{ones}
 use lib.Dec.{ltb}
 use lib.ListN.{length}
-use Rattle.tally.specs.Limits.{today, messageSize}
+use Rattle.tally.specs.Limits.{today, message_size}
 use Rattle.tally.specs.declared.Engine.TheVariants.{B, R}
-use Rattle.tally.specs.Gathered.{holders, allHold, common, firstPassing, leads, majority}
-use Rattle.tally.specs.Tally.{noMarks, mark, gatheredFrom, gathered}
-use Rattle.contents.specs.Estimates.{mileageOrBlank, mileageOrSplit, secondEstimateOk, sameMileage}
-use Rattle.contents.specs.Logs.{stateOk, logOk}
-use Rattle.contents.specs.Images.{every, cellOk, cellsOk, tallyOk, checksAllowed, imageOk, sameSettings, stateFits, fits}
-use Rattle.contents.specs.Messages.{firstOk, checkOk, secondOk, skipOk, kindOk, messageOk}
-use Rattle.formats.specs.Numbers.{numAt, bytesOf}
-use Rattle.formats.specs.Messages.{readMessage, cleared}
-use Rattle.consensus.specs.Conditions.{firstOf}
-use Rattle.consensus.specs.Units.{atLog, downUnit}
-use Rattle.consensus.specs.Step.{says, logWrite, atRound, fresh, recovered, sendFirst, proposed, takeFirst, onFirst, isFull, takeSecond, countCheck, checksWith}
-use Rattle.consensus.specs.Step.{onCheck, nextProposal, close, countSecond, secondsWith, onSecond, onKind, skip, caughtUp, received}
-use Rattle.consensus.specs.Methods.{forOther, outOfRange, closesLast}
-use Rattle.calls.specs.Calls.{badSettings, badMessage, messageBytes}
+use Rattle.tally.specs.Gathered.{holders, all_hold, common, first_passing, leads, majority}
+use Rattle.tally.specs.Tally.{no_marks, mark, gathered_from, gathered}
+use Rattle.contents.specs.Estimates.{mileage_or_blank, mileage_or_split, second_estimate_ok, same_mileage}
+use Rattle.contents.specs.Logs.{state_ok, log_ok}
+use Rattle.contents.specs.Images.{every, cell_ok, cells_ok, tally_ok, checks_allowed, image_ok, same_settings, state_fits, fits}
+use Rattle.contents.specs.Messages.{first_ok, check_ok, second_ok, skip_ok, kind_ok, message_ok}
+use Rattle.formats.specs.Numbers.{num_at, bytes_of}
+use Rattle.formats.specs.Messages.{read_message, cleared}
+use Rattle.consensus.specs.Conditions.{first_refusal}
+use Rattle.consensus.specs.Units.{at_log, down_unit}
+use Rattle.consensus.specs.Step.{says, log_write, at_round, fresh, recovered, send_first, proposed, take_first, on_first, is_full, take_second, count_check}
+use Rattle.consensus.specs.Step.{checks_with}
+use Rattle.consensus.specs.Step.{on_check, next_proposal, close, count_second, seconds_with, on_second, on_kind, skip, caught_up, received}
+use Rattle.consensus.specs.Methods.{for_other, out_of_range, closes_last}
+use Rattle.calls.specs.Calls.{bad_settings, bad_message, message_bytes}
 use Rattle.calls.proofs.Examples.{junk}
-use Rattle.cards.specs.Calls.{rowAt, wrongCount, namesNoRow, badRowLog, otherRow, badRowImage, cardStartConditions, cardStartCall, cardKeyOnConditions}
-use Rattle.cards.specs.Calls.{cardKeyOnCall, cardProposeConditions, cardProposeCall, cardDeliverConditions, cardDeliverCall}
-use Rattle.cards.specs.Rows.{rowLog, rowImage, noRow}
+use Rattle.cards.specs.Calls.{row_at, wrong_count, names_no_row, bad_row_log, other_row, bad_row_image, card_start_conditions, card_start_call}
+use Rattle.cards.specs.Calls.{card_key_on_conditions}
+use Rattle.cards.specs.Calls.{card_key_on_call, card_propose_conditions, card_propose_call, card_deliver_conditions, card_deliver_call}
+use Rattle.cards.specs.Rows.{row_log, row_image, no_row}
 use Rattle.cards.specs.declared.CardRow.{CardRow}
 use Rattle.agreement.specs.Worlds.{run}
-use Rattle.card_history.specs.Cards.{new, up, CardWorld, begun, lentCard, Call, proposes, CardEvent, start, proposal, delivery, cut, off, on, call}
-use Rattle.card_history.specs.Cards.{next, leave, after, runCall, besideUnit, delivering, step}
+use Rattle.card_history.specs.Cards.{new, up, CardWorld, begun, lent_card, Call, proposes, CardEvent, start, proposal, delivery, cut, off, on, call}
+use Rattle.card_history.specs.Cards.{next, leave, after, run_call, beside_unit, delivering, step}
 
 -- buffers that held other bytes before
 abbrev out : List ℕ
-out = junk (messageSize today)
+out = junk (message_size today)
 
 -- units 0 and 1 have two rows, the others one
 abbrev cards : ℕ → List CardRow
-cards u = cond (ltb u 2) (noRow ∷ noRow ∷ []) (noRow ∷ [])
+cards u = cond (ltb u 2) (no_row ∷ no_row ∷ []) (no_row ∷ [])
 
 abbrev events : List CardEvent
 events =
@@ -58,7 +60,7 @@ events =
     ∷ delivery 0 4 out
     ∷ delivery 0 5 out
     ∷ delivery 0 1 out
-    ∷ cut 0 3 out noRow
+    ∷ cut 0 3 out no_row
     ∷ delivery 1 4 out
     ∷ delivery 1 5 out
     ∷ on 0 1
@@ -81,39 +83,39 @@ pub record Worked (w : CardWorld) : Type 0 where
       ∷ []
   -- up again after the cut, with the second estimate that the cut delivery logged; and a row that the card does not have
   pub recovered : (w.units 0).stage 1 ≡ up
-  pub logged : (rowAt (w.units 0).rows 1).log.second ≡ 412077
-  pub in-image : (rowAt (w.units 0).rows 1).image.second ≡ 412077
+  pub logged : (row_at (w.units 0).rows 1).log.second ≡ 412077
+  pub in_image_lem : (row_at (w.units 0).rows 1).image.second ≡ 412077
   pub missing : (w.units 2).stage 2 ≡ new
 
 pub computed : Worked (run (step today B 3) (begun cards) events)
-unfolding ones holders allHold common firstPassing leads majority noMarks mark gatheredFrom gathered
-    mileageOrBlank mileageOrSplit secondEstimateOk sameMileage stateOk logOk every cellOk cellsOk tallyOk checksAllowed imageOk sameSettings stateFits
-    fits firstOk checkOk secondOk skipOk kindOk messageOk numAt bytesOf readMessage cleared firstOf atLog downUnit says logWrite
-    atRound fresh recovered sendFirst proposed takeFirst onFirst isFull takeSecond countCheck checksWith onCheck nextProposal close countSecond
-    secondsWith onSecond onKind skip caughtUp received forOther outOfRange closesLast rowLog rowImage wrongCount namesNoRow badSettings badRowLog
-    otherRow badRowImage badMessage messageBytes cardStartConditions cardStartCall cardKeyOnConditions cardKeyOnCall cardProposeConditions
-    cardProposeCall cardDeliverConditions cardDeliverCall run next leave after delivering step
-computed = record { sent = refl; proposed = refl; decided = refl; recovered = refl; logged = refl; in-image = refl; missing = refl }
+unfolding ones holders all_hold common first_passing leads majority no_marks mark gathered_from gathered
+    mileage_or_blank mileage_or_split second_estimate_ok same_mileage state_ok log_ok every cell_ok cells_ok tally_ok checks_allowed image_ok same_settings
+    state_fits fits first_ok check_ok second_ok skip_ok kind_ok message_ok num_at bytes_of read_message cleared first_refusal at_log down_unit says log_write
+    at_round fresh recovered send_first proposed take_first on_first is_full take_second count_check checks_with on_check next_proposal close count_second
+    seconds_with on_second on_kind skip caught_up received for_other out_of_range closes_last row_log row_image wrong_count names_no_row bad_settings
+    bad_row_log other_row bad_row_image bad_message message_bytes card_start_conditions card_start_call card_key_on_conditions card_key_on_call
+    card_propose_conditions card_propose_call card_deliver_conditions card_deliver_call run next leave after delivering step
+computed = record { sent = refl; proposed = refl; decided = refl; recovered = refl; logged = refl; in_image_lem = refl; missing = refl }
 
 -- ---- engine R: a quorum is all three
 
 -- a row that unit 2's card does not have
-abbrev turnedDown : Call
-turnedDown = proposes (besideUnit R 3 2) (lentCard 2) 2 412077 out
+abbrev turned_down : Call
+turned_down = proposes (beside_unit R 3 2) (lent_card 2) 2 412077 out
 
-abbrev begunR : CardWorld
-begunR = run (step today R 3) (begun cards) (start 0 1 ∷ start 1 1 ∷ start 2 1 ∷ [])
+abbrev begun_r : CardWorld
+begun_r = run (step today R 3) (begun cards) (start 0 1 ∷ start 1 1 ∷ start 2 1 ∷ [])
 
 -- the key of unit 2's row is off when one SECOND of three is marked, and the mark is lost
-abbrev eventsR : List CardEvent
-eventsR =
-    call turnedDown
+abbrev events_r : List CardEvent
+events_r =
+    call turned_down
     ∷ proposal 0 1 412077 out
     ∷ delivery 0 0 out
     ∷ delivery 1 0 out
     ∷ delivery 2 0 out
     ∷ delivery 2 1 out
-    ∷ off 2 1 noRow
+    ∷ off 2 1 no_row
     ∷ on 2 1
     ∷ delivery 2 2 out
     ∷ delivery 2 3 out
@@ -121,19 +123,19 @@ eventsR =
     ∷ []
 
 pub record WorkedR (w : CardWorld) : Type 0 where
-  pub refused : (runCall today begunR turnedDown).number ≡ 12
+  pub refused : (run_call today begun_r turned_down).number ≡ 12
   pub sent : length w.sent ≡ 4
   pub proposed : w.proposed ≡ record { entry = 1; what = record { unit = 0; mileage = 412077 } } ∷ []
   pub decided : w.decided ≡ record { entry = 1; what = record { unit = 2; round = 0; mileage = 412077 } } ∷ []
   pub recovered : (w.units 2).stage 1 ≡ up
-  pub logged : (rowAt (w.units 2).rows 1).log.first ≡ 412077
+  pub logged : (row_at (w.units 2).rows 1).log.first ≡ 412077
 
-pub computed-r : WorkedR (run (step today R 3) begunR eventsR)
-unfolding ones holders allHold common firstPassing leads majority noMarks mark gatheredFrom gathered
-    mileageOrBlank mileageOrSplit secondEstimateOk sameMileage stateOk logOk every cellOk cellsOk tallyOk checksAllowed imageOk sameSettings stateFits
-    fits firstOk checkOk secondOk skipOk kindOk messageOk numAt bytesOf readMessage cleared firstOf atLog downUnit says logWrite
-    atRound fresh recovered sendFirst proposed takeFirst onFirst isFull nextProposal close countSecond
-    secondsWith onSecond onKind skip caughtUp received forOther outOfRange closesLast rowLog rowImage wrongCount namesNoRow badSettings badRowLog
-    otherRow badRowImage badMessage messageBytes cardStartConditions cardStartCall cardKeyOnConditions cardKeyOnCall cardProposeConditions
-    cardProposeCall cardDeliverConditions cardDeliverCall run next leave after runCall delivering step
-computed-r = record { refused = refl; sent = refl; proposed = refl; decided = refl; recovered = refl; logged = refl }
+pub computed_r : WorkedR (run (step today R 3) begun_r events_r)
+unfolding ones holders all_hold common first_passing leads majority no_marks mark gathered_from gathered
+    mileage_or_blank mileage_or_split second_estimate_ok same_mileage state_ok log_ok every cell_ok cells_ok tally_ok checks_allowed image_ok same_settings
+    state_fits fits first_ok check_ok second_ok skip_ok kind_ok message_ok num_at bytes_of read_message cleared first_refusal at_log down_unit says log_write
+    at_round fresh recovered send_first proposed take_first on_first is_full next_proposal close count_second
+    seconds_with on_second on_kind skip caught_up received for_other out_of_range closes_last row_log row_image wrong_count names_no_row bad_settings
+    bad_row_log other_row bad_row_image bad_message message_bytes card_start_conditions card_start_call card_key_on_conditions card_key_on_call
+    card_propose_conditions card_propose_call card_deliver_conditions card_deliver_call run next leave after run_call delivering step
+computed_r = record { refused = refl; sent = refl; proposed = refl; decided = refl; recovered = refl; logged = refl }

@@ -5,11 +5,11 @@ use Rattle.std.proofs.Math.ListN.{get_elem?}
 use Rattle.tally.specs.Limits.{Limits}
 use Rattle.tally.specs.declared.Engine.{Engine}
 use Rattle.contents.specs.declared.Message.{Message}
-use Rattle.formats.specs.Codes.{letterOf, estimateOf}
-use Rattle.formats.specs.Messages.{readMessage}
-use Rattle.cards.specs.Calls.{CardAnswer, Beside, beside, rowAt, cardStartCall, cardKeyOnCall, cardProposeCall, cardDeliverCall}
+use Rattle.formats.specs.Codes.{letter_of, estimate_of}
+use Rattle.formats.specs.Messages.{read_message}
+use Rattle.cards.specs.Calls.{CardAnswer, Beside, beside, row_at, card_start_call, card_key_on_call, card_propose_call, card_deliver_call}
 use Rattle.cards.specs.declared.CardRow.{CardRow}
-use Rattle.agreement.specs.Bytes.{unlessEmpty}
+use Rattle.agreement.specs.Bytes.{unless_empty}
 use Rattle.agreement.specs.Worlds.{Proposal, Decision, put, decision}
 
 -- ---- worlds
@@ -43,18 +43,18 @@ begun cards = record { units = λ u. record { rows = cards u; stage = λ k. new 
 
 -- a card that a host lends: a unit's, or any other
 pub data Lent : Type 0 where
-  lentCard : ℕ → Lent
+  lent_card : ℕ → Lent
   other : List CardRow → Lent
 
 -- any call on a card, with any numbers and buffers
 pub data Call : Type 0 where
-  starts keysOn : (settings : Beside) (card : Lent) (row : ℕ) → Call
+  starts keys_on : (settings : Beside) (card : Lent) (row : ℕ) → Call
   proposes : (settings : Beside) (card : Lent) (row mileage : ℕ) (out : List ℕ) → Call
   delivers : (settings : Beside) (card : Lent) (message out : List ℕ) → Call
 
 -- every event of a history is of a unit and a row; a delivery or a cut is of the row of the message's entry. `out` is what the output buffer held
 -- before, `lost` what the row's image holds once the key is off: anything. A proposal or a key-on that is cut short is a key-off, a start that is
--- cut short is none or one with a key-off after it; the key of a whole bike is a key-off of each row (`offAll` in Claims)
+-- cut short is none or one with a key-off after it; the key of a whole bike is a key-off of each row (`off_all` in Claims)
 pub data CardEvent : Type 0 where
   start : (unit row : ℕ) → CardEvent
   proposal : (unit row mileage : ℕ) (out : List ℕ) → CardEvent
@@ -68,20 +68,20 @@ pub data CardEvent : Type 0 where
 -- ---- start, proposal, delivery, cut delivery, key-off, key-on
 
 -- where a row stands
-abbrev pub isNew : Stage → Bool
-isNew new = true
-isNew up = false
-isNew down = false
+abbrev pub is_new : Stage → Bool
+is_new new = true
+is_new up = false
+is_new down = false
 
-abbrev pub isUp : Stage → Bool
-isUp new = false
-isUp up = true
-isUp down = false
+abbrev pub is_up : Stage → Bool
+is_up new = false
+is_up up = true
+is_up down = false
 
-abbrev pub isDown : Stage → Bool
-isDown new = false
-isDown up = false
-isDown down = true
+abbrev pub is_down : Stage → Bool
+is_down new = false
+is_down up = false
+is_down down = true
 
 -- one more, if any
 abbrev pub added : {A : Type 0} → List A → Option A → List A
@@ -89,9 +89,9 @@ added xs none = xs
 added xs (some a) = xs ++ (a ∷ [])
 
 -- what there is, if any, with its entry
-abbrev pub ofEntry : {A : Type 0} → ℕ → Option A → Option (OfEntry A)
-ofEntry k none = none
-ofEntry k (some a) = some (record { entry = k; what = a })
+abbrev pub of_entry : {A : Type 0} → ℕ → Option A → Option (OfEntry A)
+of_entry k none = none
+of_entry k (some a) = some (record { entry = k; what = a })
 
 -- what comes of an accepted event of a row: the card, where the row stands, and what is sent, proposed and decided
 pub record RowOutcome : Type 0 where
@@ -106,19 +106,19 @@ abbrev pub silent : List CardRow → Stage → RowOutcome
 silent rows s = record { rows = rows; stage = s; sent = none; proposed = none; decided = none }
 
 -- row k keeps its log and nothing else, and is down
-abbrev pub turnedOff : List CardRow → ℕ → CardRow → RowOutcome
-turnedOff rows k lost =
-    silent (set rows (k - 1) (record { log = (rowAt rows k).log; image = lost.image; checks = lost.checks; seconds = lost.seconds })) down
+abbrev pub turned_off : List CardRow → ℕ → CardRow → RowOutcome
+turned_off rows k lost =
+    silent (set rows (k - 1) (record { log = (row_at rows k).log; image = lost.image; checks = lost.checks; seconds = lost.seconds })) down
 
 -- an accepted proposal is recorded; the message that the call stores, unless empty, is kept next. It decides nothing
-abbrev pub hasProposed : ℕ → ℕ → CardAnswer → RowOutcome
-hasProposed u v a =
-    record { rows = a.rows; stage = up; sent = unlessEmpty a.out; proposed = some (record { unit = u; mileage = v }); decided = none }
+abbrev pub has_proposed : ℕ → ℕ → CardAnswer → RowOutcome
+has_proposed u v a =
+    record { rows = a.rows; stage = up; sent = unless_empty a.out; proposed = some (record { unit = u; mileage = v }); decided = none }
 
 -- an accepted delivery's message, unless empty, is kept next, and its decision, if any, is reported as one of round r
-abbrev pub hasReceived : ℕ → ℕ → CardAnswer → RowOutcome
-hasReceived u r a =
-    record { rows = a.rows; stage = up; sent = unlessEmpty a.out; proposed = none; decided = decision u r (estimateOf a.decision) }
+abbrev pub has_received : ℕ → ℕ → CardAnswer → RowOutcome
+has_received u r a =
+    record { rows = a.rows; stage = up; sent = unless_empty a.out; proposed = none; decided = decision u r (estimate_of a.decision) }
 
 -- row k of unit u has this outcome; a proposal and a decision are recorded with their entry, which is k
 unfoldable pub next : CardWorld → ℕ → ℕ → RowOutcome → CardWorld
@@ -126,8 +126,8 @@ next w u k o =
     record {
       units = put w.units u (record { rows = o.rows; stage = put (w.units u).stage k o.stage });
       sent = added w.sent o.sent;
-      proposed = added w.proposed (ofEntry k o.proposed);
-      decided = added w.decided (ofEntry k o.decided);
+      proposed = added w.proposed (of_entry k o.proposed);
+      decided = added w.decided (of_entry k o.decided);
     }
 
 -- unit u has these rows, and nothing else changes
@@ -147,33 +147,33 @@ after w u k a o = cond (eqb a.number 0) (next w u k o) (leave w u a.rows)
 -- ---- any other call
 
 -- the rows of a lent card
-abbrev pub lentRows : CardWorld → Lent → List CardRow
-lentRows w (lentCard u) = (w.units u).rows
-lentRows w (other rows) = rows
+abbrev pub lent_rows : CardWorld → Lent → List CardRow
+lent_rows w (lent_card u) = (w.units u).rows
+lent_rows w (other rows) = rows
 
 -- what is left in a unit's card is there from then on
-abbrev pub leaveLent : CardWorld → Lent → List CardRow → CardWorld
-leaveLent w (lentCard u) rows = leave w u rows
-leaveLent w (other old) rows = w
+abbrev pub leave_lent : CardWorld → Lent → List CardRow → CardWorld
+leave_lent w (lent_card u) rows = leave w u rows
+leave_lent w (other old) rows = w
 
 -- the card that a call is given
-abbrev pub cardOf : Call → Lent
-cardOf (starts b card k) = card
-cardOf (keysOn b card k) = card
-cardOf (proposes b card k v out) = card
-cardOf (delivers b card m out) = card
+abbrev pub card_of : Call → Lent
+card_of (starts b card k) = card
+card_of (keys_on b card k) = card
+card_of (proposes b card k v out) = card
+card_of (delivers b card m out) = card
 
-unfoldable pub runCall : Limits → CardWorld → Call → CardAnswer
-runCall l w (starts b card k) = cardStartCall l b (lentRows w card) k
-runCall l w (keysOn b card k) = cardKeyOnCall l b (lentRows w card) k
-runCall l w (proposes b card k v out) = cardProposeCall l b (lentRows w card) k v out
-runCall l w (delivers b card m out) = cardDeliverCall l b (lentRows w card) m out
+unfoldable pub run_call : Limits → CardWorld → Call → CardAnswer
+run_call l w (starts b card k) = card_start_call l b (lent_rows w card) k
+run_call l w (keys_on b card k) = card_key_on_call l b (lent_rows w card) k
+run_call l w (proposes b card k v out) = card_propose_call l b (lent_rows w card) k v out
+run_call l w (delivers b card m out) = card_deliver_call l b (lent_rows w card) m out
 
 -- ---- histories
 
 -- what stands beside the card of unit u
-abbrev pub besideUnit : Engine → ℕ → ℕ → Beside
-besideUnit g n u = beside (letterOf g) n u
+abbrev pub beside_unit : Engine → ℕ → ℕ → Beside
+beside_unit g n u = beside (letter_of g) n u
 
 -- engine and n are the same for all units; an event changes nothing where its row does not stand as it must: a start is of a row that is not
 -- started, a key-on of a down one, every other of an up one
@@ -183,25 +183,25 @@ module _ (l : Limits) (g : Engine) (n : ℕ) where
   unfoldable pub delivering : CardWorld → ℕ → List ℕ → (Message → CardAnswer → RowOutcome) → Option (List ℕ) → CardWorld
   delivering w u out f none = w
   delivering w u out f (some bs) =
-      let m = (readMessage l bs).contents in
-      let a = cardDeliverCall l (besideUnit g n u) (w.units u).rows bs out in
-      cond (isUp ((w.units u).stage m.entry)) (after w u m.entry a (f m a)) w
+      let m = (read_message l bs).contents in
+      let a = card_deliver_call l (beside_unit g n u) (w.units u).rows bs out in
+      cond (is_up ((w.units u).stage m.entry)) (after w u m.entry a (f m a)) w
 
   unfoldable pub step : CardWorld → CardEvent → CardWorld
   step w (start u k) =
-      let a = cardStartCall l (besideUnit g n u) (w.units u).rows k in
-      cond (isNew ((w.units u).stage k)) (after w u k a (silent a.rows up)) w
+      let a = card_start_call l (beside_unit g n u) (w.units u).rows k in
+      cond (is_new ((w.units u).stage k)) (after w u k a (silent a.rows up)) w
   step w (proposal u k v out) =
-      let a = cardProposeCall l (besideUnit g n u) (w.units u).rows k v out in
-      cond (isUp ((w.units u).stage k)) (after w u k a (hasProposed u v a)) w
-  step w (delivery u i out) = delivering w u out (λ m a. hasReceived u m.round a) (get_elem? w.sent i)
+      let a = card_propose_call l (beside_unit g n u) (w.units u).rows k v out in
+      cond (is_up ((w.units u).stage k)) (after w u k a (has_proposed u v a)) w
+  step w (delivery u i out) = delivering w u out (λ m a. has_received u m.round a) (get_elem? w.sent i)
   -- the log that the call gives is the row's from then on; image, message and decision are lost and the row is down
-  step w (cut u i out lost) = delivering w u out (λ m a. turnedOff a.rows m.entry lost) (get_elem? w.sent i)
-  step w (off u k lost) = cond (isUp ((w.units u).stage k)) (next w u k (turnedOff (w.units u).rows k lost)) w
+  step w (cut u i out lost) = delivering w u out (λ m a. turned_off a.rows m.entry lost) (get_elem? w.sent i)
+  step w (off u k lost) = cond (is_up ((w.units u).stage k)) (next w u k (turned_off (w.units u).rows k lost)) w
   step w (on u k) =
-      let a = cardKeyOnCall l (besideUnit g n u) (w.units u).rows k in
-      cond (isDown ((w.units u).stage k)) (after w u k a (silent a.rows up)) w
-  step w (call c) = leaveLent w (cardOf c) (runCall l w c).rows
+      let a = card_key_on_call l (beside_unit g n u) (w.units u).rows k in
+      cond (is_down ((w.units u).stage k)) (after w u k a (silent a.rows up)) w
+  step w (call c) = leave_lent w (card_of c) (run_call l w c).rows
 
   -- a call with any card and buffers is an event exactly where it is refused
   abbrev pub LawfulEvent : CardWorld → CardEvent → Type 0
@@ -211,7 +211,7 @@ module _ (l : Limits) (g : Engine) (n : ℕ) where
   LawfulEvent w (cut u i out lost) = Unit
   LawfulEvent w (off u k lost) = Unit
   LawfulEvent w (on u k) = Unit
-  LawfulEvent w (call c) = (runCall l w c).number ≡ 0 → ⊥
+  LawfulEvent w (call c) = (run_call l w c).number ≡ 0 → ⊥
 
   abbrev pub Lawful : CardWorld → List CardEvent → Type 0
   Lawful w [] = Unit

@@ -3,16 +3,16 @@
 
 ghost use Rattle.std.specs.Prelude.{◌≡◌, true, ◌<◌, ◌^◌, get_or};
 ghost use Rattle.tally.specs.Limits.{today, senders};
-ghost use Rattle.contents.specs.Estimates.{isBlank};
-ghost use Rattle.contents.specs.Images.{every, cellsOk, tallyOk};
-ghost use Rattle.formats.specs.Codes.{estimateOf};
-ghost use Rattle.formats.specs.Formats.{fromNumbers};
-ghost use Rattle.formats.specs.InnerImages.{fitState};
-ghost use Rattle.formats.specs.Logs.{logOf, logFormat};
-ghost use Rattle.consensus.specs.Units.{upUnit};
-ghost use Rattle.calls.specs.InnerFields.{logNarrow};
-ghost use Rattle.cards.specs.Rows.{numbersOf, marksFit, rowTally, rowImage, logFieldsOf, tallyFieldsOf, rowOf};
-ghost use Rattle.cards.specs.InnerSteps.{logReadOf, unmarkedRow, rowFits};
+ghost use Rattle.contents.specs.Estimates.{is_blank};
+ghost use Rattle.contents.specs.Images.{every, cells_ok, tally_ok};
+ghost use Rattle.formats.specs.Codes.{estimate_of};
+ghost use Rattle.formats.specs.Formats.{from_numbers};
+ghost use Rattle.formats.specs.InnerImages.{fit_state};
+ghost use Rattle.formats.specs.Logs.{log_of, log_format};
+ghost use Rattle.consensus.specs.Units.{up_unit};
+ghost use Rattle.calls.specs.InnerFields.{log_narrow};
+ghost use Rattle.cards.specs.Rows.{numbers_of, marks_fit, row_tally, row_image, log_fields_of, tally_fields_of, row_of};
+ghost use Rattle.cards.specs.InnerSteps.{log_read_of, unmarked_row, row_fits};
 
 use cards::{CardRow, LogFields, TallyFields};
 use contents::{Log, Settings, State};
@@ -22,9 +22,9 @@ use tally::{Cell, Engine, Refusal, Tally, limits};
 
 // ---- from a row
 // Does each number fit its bytes?
-#[tactic(auto, unfolding(calls::specs::InnerFields::logNarrow))]
+#[tactic(auto, unfolding(calls::specs::InnerFields::log_narrow))]
 fn narrow(f: &LogFields) -> bool
-    ensures { result ≡ logNarrow today (numbersOf f.now) }
+    ensures { result ≡ log_narrow today (numbers_of f.now) }
 {
     (f.engine < 256)
         & (f.n < 256)
@@ -33,10 +33,10 @@ fn narrow(f: &LogFields) -> bool
         & codes::round_narrow(f.round)
 }
 
-#[tactic(auto, unfolding(calls::specs::InnerFields::logNarrow))]
+#[tactic(auto, unfolding(calls::specs::InnerFields::log_narrow))]
 fn log_of(engine: Engine, f: &LogFields) -> Log
-    requires { logNarrow today (numbersOf f.now) ≡ true }
-    ensures { result ≡ logOf engine (numbersOf f.now) }
+    requires { log_narrow today (numbers_of f.now) ≡ true }
+    ensures { result ≡ log_of engine (numbers_of f.now) }
 {
     Log {
         settings: Settings {
@@ -55,9 +55,9 @@ fn log_of(engine: Engine, f: &LogFields) -> Log
 }
 
 // The log of eight numbers, where they are well formed.
-#[tactic(auto, unfolding(calls::specs::InnerFields::logNarrow))]
+#[tactic(auto, unfolding(calls::specs::InnerFields::log_narrow))]
 pub fn read_log(f: &LogFields) -> LogRead
-    ensures { result ≡ logReadOf (fromNumbers (logFormat today) (numbersOf f.now)) }
+    ensures { result ≡ log_read_of (from_numbers (log_format today) (numbers_of f.now)) }
 {
     if !narrow(f) {
         return LogRead::Refused(Refusal::Log);
@@ -75,7 +75,7 @@ pub fn read_log(f: &LogFields) -> LogRead
 
 // Are there no marks above the last sender's?
 fn marks_fit(f: &TallyFields) -> bool
-    ensures { result ≡ marksFit f.now }
+    ensures { result ≡ marks_fit f.now }
 {
     f.marks < 65536
 }
@@ -83,7 +83,7 @@ fn marks_fit(f: &TallyFields) -> bool
 // Are all sixteen estimates blank?
 #[tactic(auto, unfolding(contents::specs::Images::every))]
 fn blanks(f: &TallyFields) -> bool
-    ensures { result ≡ every senders (λ u. isBlank (estimateOf (get_or f.now.estimates u 0))) }
+    ensures { result ≡ every senders (λ u. is_blank (estimate_of (get_or f.now.estimates u 0))) }
 {
     let mut ok = true;
     let mut i: usize = 0;
@@ -98,7 +98,7 @@ fn blanks(f: &TallyFields) -> bool
 #[tactic(auto, unfolding(contents::specs::Images::every))]
 fn cells_ok(f: &TallyFields, split: bool, n: u8) -> bool
     requires { f.now.marks < 2 ^ senders }
-    ensures { result ≡ cellsOk today split n (rowTally f.now) }
+    ensures { result ≡ cells_ok today split n (row_tally f.now) }
 {
     let marks = f.marks as u16;
     if marks == 0 {
@@ -113,10 +113,10 @@ fn cells_ok(f: &TallyFields, split: bool, n: u8) -> bool
     ok
 }
 
-#[tactic(auto, unfolding(contents::specs::Images::tallyOk))]
+#[tactic(auto, unfolding(contents::specs::Images::tally_ok))]
 fn tally_ok(f: &TallyFields, split: bool, engine: Engine, n: u8) -> bool
     requires { f.now.marks < 2 ^ senders }
-    ensures { result ≡ tallyOk today split engine n (rowTally f.now) }
+    ensures { result ≡ tally_ok today split engine n (row_tally f.now) }
 {
     cells_ok(f, split, n) & (u16::count_ones(f.marks as u16) < tally::quorum(engine, n))
 }
@@ -124,7 +124,7 @@ fn tally_ok(f: &TallyFields, split: bool, engine: Engine, n: u8) -> bool
 // Are the tallies, beside these first contents of an image, well formed, and does all of it fit the log?
 #[tactic(auto, unfolding(contents::specs::Images::fits))]
 fn fits(r: &CardRow, front: Log, log: Log) -> bool
-    ensures { result ≡ rowFits today r.now front log }
+    ensures { result ≡ row_fits today r.now front log }
 {
     if !(marks_fit(&r.checks) & marks_fit(&r.seconds)) {
         return false;
@@ -146,7 +146,7 @@ fn fits(r: &CardRow, front: Log, log: Log) -> bool
 
 // The state of a row's image that is well formed and fits the log.
 pub fn state_for(r: &CardRow, log: Log) -> StateRead
-    ensures { result ≡ fitState (rowImage today r.now) log }
+    ensures { result ≡ fit_state (row_image today r.now) log }
 {
     let LogRead::Read(front) = read_log(&r.image) else {
         return StateRead::Unfit;
@@ -162,7 +162,7 @@ pub fn state_for(r: &CardRow, log: Log) -> StateRead
 // Sixteen blanks are known in one pass.
 pub fn tally_of(f: &TallyFields) -> Tally
     requires { f.now.marks < 2 ^ senders }
-    ensures { result ≡ rowTally f.now }
+    ensures { result ≡ row_tally f.now }
 {
     if blanks(f) {
         return Tally {
@@ -187,7 +187,7 @@ pub fn tally_of(f: &TallyFields) -> Tally
 
 // ---- to a row
 fn log_fields(l: Log) -> LogFields
-    ensures { result ≡ logFieldsOf l }
+    ensures { result ≡ log_fields_of l }
 {
     let settings = l.settings;
     let state = l.state;
@@ -208,7 +208,7 @@ fn log_fields(l: Log) -> LogFields
 }
 
 fn tally_fields(t: Tally) -> TallyFields
-    ensures { result ≡ tallyFieldsOf t }
+    ensures { result ≡ tally_fields_of t }
 {
     let mut estimates = [limits::BLANK; limits::SENDERS];
     let mut i: usize = 0;
@@ -231,9 +231,9 @@ const NO_TALLY: TallyFields = TallyFields {
 };
 
 // The row at a log's contents, without marks.
-#[tactic(auto, unfolding(tally::specs::Tally::noMarks))]
+#[tactic(auto, unfolding(tally::specs::Tally::no_marks))]
 pub fn unmarked(l: Log) -> CardRow
-    ensures { result ≡ unmarkedRow l }
+    ensures { result ≡ unmarked_row l }
 {
     let fields = log_fields(l);
     CardRow {
@@ -252,7 +252,7 @@ pub fn row_of(
     checks: &Tally,
     seconds: &Tally,
 ) -> CardRow
-    ensures { result ≡ rowOf (upUnit (record { settings = settings; state = logged })
+    ensures { result ≡ row_of (up_unit (record { settings = settings; state = logged })
         (record { settings = settings; state = current; checks = checks.now; seconds = seconds.now })) }
 {
     CardRow {

@@ -8,57 +8,58 @@ use lib.Dec.{eqb}
 use lib.ListN.{length, set}
 use lib.Seq.{set-get_or}
 use borrow.Author.Tests.{le-leb, lt-leb, eqb-true, eqb-false, ne_eqb, not-false}
-use Rattle.tally.specs.Limits.{today, blankCode, messageSize}
-use Rattle.tally.specs.Refusal.{numberOf}
+use Rattle.tally.specs.Limits.{today, blank_code, message_size}
+use Rattle.tally.specs.Refusal.{number_of}
 use Rattle.tally.specs.declared.Refusal.{Refusal}
-use Rattle.tally.proofs.Bounds.{sane-today}
+use Rattle.tally.proofs.Bounds.{sane_today}
 use Rattle.tally.proofs.Never.{never}
-use Rattle.contents.specs.Messages.{isEmpty, messageOk}
+use Rattle.contents.specs.Messages.{is_empty, message_ok}
 use Rattle.contents.specs.declared.Kind.{Kind}
 use Rattle.contents.specs.declared.Kind.TheVariants.{Empty, First, Check, Second, Skip}
 use Rattle.contents.specs.declared.Message.{Message}
 use Rattle.formats.specs.Formats.{reading}
 use Rattle.formats.specs.InnerFormats.{stored}
-use Rattle.formats.specs.Messages.{messageFormat, readMessage, cleared}
-use Rattle.consensus.specs.Conditions.{Condition, firstOf}
-use Rattle.consensus.specs.Methods.{proposeConditions, deliverConditions}
-use Rattle.consensus.specs.Step.{proposed, sendFirst}
+use Rattle.formats.specs.Messages.{message_format, read_message, cleared}
+use Rattle.consensus.specs.Conditions.{Condition, first_refusal}
+use Rattle.consensus.specs.Methods.{propose_conditions, deliver_conditions}
+use Rattle.consensus.specs.Step.{proposed, send_first}
 use Rattle.consensus.specs.declared.Answer.{Answer}
-use Rattle.calls.specs.Calls.{wrongLength, badMessage, messageBytes}
-use Rattle.calls.proofs.Entries.{message-ok}
-use Rattle.cards.specs.Calls.{CardAnswer, cardCalled, unlessCard, answeredCard, wrongCount, rowAt, beside, cardStartConditions, cardStartCall}
-use Rattle.cards.specs.Calls.{cardKeyOnConditions, cardKeyOnCall, cardProposeConditions, cardProposeCall, cardDeliverConditions, cardDeliverCall}
-use Rattle.cards.specs.InnerSteps.{stepConditions, unitConditions, unitAnswer, stepAnswer, tells, told, rowAnswer, unlessRow, stepOf}
-use Rattle.cards.specs.InnerSteps.{frontConditions, front, cardTold, cardRows, cardCall, proposeAsks, deliverAsks, putMessage, toldCard}
-use Rattle.cards.specs.Rows.{rowUnit, rowOf, noRow}
+use Rattle.calls.specs.Calls.{wrong_length, bad_message, message_bytes}
+use Rattle.calls.proofs.Entries.{message_ok_lem}
+use Rattle.cards.specs.Calls.{CardAnswer, card_called, unless_card, answered_card, wrong_count, row_at, beside, card_start_conditions, card_start_call}
+use Rattle.cards.specs.Calls.{card_key_on_conditions, card_key_on_call, card_propose_conditions, card_propose_call, card_deliver_conditions, card_deliver_call}
+use Rattle.cards.specs.InnerSteps.{step_conditions, unit_conditions, unit_answer, step_answer, tells, told, row_answer, unless_row, step_of}
+use Rattle.cards.specs.InnerSteps.{front_conditions, front, card_told, card_rows, card_call, propose_asks, deliver_asks, put_message, told_card}
+use Rattle.cards.specs.Rows.{row_unit, row_of, no_row}
 use Rattle.cards.specs.declared.Act.{Act}
 use Rattle.cards.specs.declared.CardCall.{CardCall}
 use Rattle.cards.specs.declared.CardRow.{CardRow}
 use Rattle.cards.specs.declared.UnitStep.{UnitStep}
 use Rattle.cards.proofs.Calls.{Named}
-use Rattle.cards.proofs.Steps.{front-row, place-at, place-none, unit-plain}
+use Rattle.cards.proofs.Steps.{front_row, place_at, place_none, unit_plain}
 
 -- ---- conditions in two parts
 
-first-append : (xs ys : List Condition) → Named xs → firstOf (xs ++ ys) ≡ cond (eqb (numberOf (firstOf xs)) 0) (firstOf ys) (firstOf xs)
-unfolding firstOf
-first-append [] ys h = refl
-first-append (x ∷ xs) ys h = go x.holds (first-append xs ys h.1)
+first_append : (xs ys : List Condition) → Named xs
+    → first_refusal (xs ++ ys) ≡ cond (eqb (number_of (first_refusal xs)) 0) (first_refusal ys) (first_refusal xs)
+unfolding first_refusal
+first_append [] ys h = refl
+first_append (x ∷ xs) ys h = go x.holds (first_append xs ys h.1)
   where
-    go : (b : Bool) → firstOf (xs ++ ys) ≡ cond (eqb (numberOf (firstOf xs)) 0) (firstOf ys) (firstOf xs)
-        → cond b x.refusal (firstOf (xs ++ ys))
-        ≡ cond (eqb (numberOf (cond b x.refusal (firstOf xs))) 0) (firstOf ys) (cond b x.refusal (firstOf xs))
+    go : (b : Bool) → first_refusal (xs ++ ys) ≡ cond (eqb (number_of (first_refusal xs)) 0) (first_refusal ys) (first_refusal xs)
+        → cond b x.refusal (first_refusal (xs ++ ys))
+        ≡ cond (eqb (number_of (cond b x.refusal (first_refusal xs))) 0) (first_refusal ys) (cond b x.refusal (first_refusal xs))
     go true rest = rw (ne_eqb _ _ h.0)
     go false rest = rest
 
 -- calls with the same first condition
-unless-same : (cs ds : List Condition) (rows : List CardRow) (out : List ℕ) (a b : CardAnswer) → firstOf cs ≡ firstOf ds
-    → (numberOf (firstOf ds) ≡ 0 → a ≡ b) → unlessCard today cs rows out a ≡ unlessCard today ds rows out b
-unless-same cs ds rows out a b e ok = rw e (go (eqb (numberOf (firstOf ds)) 0) refl)
+unless_same : (cs ds : List Condition) (rows : List CardRow) (out : List ℕ) (a b : CardAnswer) → first_refusal cs ≡ first_refusal ds
+    → (number_of (first_refusal ds) ≡ 0 → a ≡ b) → unless_card today cs rows out a ≡ unless_card today ds rows out b
+unless_same cs ds rows out a b e ok = rw e (go (eqb (number_of (first_refusal ds)) 0) refl)
   where
-    go : (t : Bool) → eqb (numberOf (firstOf ds)) 0 ≡ t
-        → cond t a (cardCalled (numberOf (firstOf ds)) rows (cleared today out) blankCode)
-        ≡ cond t b (cardCalled (numberOf (firstOf ds)) rows (cleared today out) blankCode)
+    go : (t : Bool) → eqb (number_of (first_refusal ds)) 0 ≡ t
+        → cond t a (card_called (number_of (first_refusal ds)) rows (cleared today out) blank_code)
+        ≡ cond t b (card_called (number_of (first_refusal ds)) rows (cleared today out) blank_code)
     go true z = ok (eqb-true _ _ z)
     go false z = refl
 
@@ -66,81 +67,82 @@ unless-same cs ds rows out a b e ok = rw e (go (eqb (numberOf (firstOf ds)) 0) r
 
 module _ (c : CardCall) (rows : List CardRow) (out : List ℕ) where
   abbrev r : CardRow
-  r = rowAt rows c.row
+  r = row_at rows c.row
 
   abbrev a : Answer
-  a = stepAnswer today c.act c r
+  a = step_answer today c.act c r
 
-  abbrev pub conditionsOf : List Condition
-  conditionsOf = frontConditions c (length rows) ++ stepConditions today c.act c r
+  abbrev pub conditions_of : List Condition
+  conditions_of = front_conditions c (length rows) ++ step_conditions today c.act c r
 
   abbrev pub accepts : CardAnswer
-  accepts = toldCard today (set rows (c.row - 1) (rowOf a.unit)) out (told a)
+  accepts = told_card today (set rows (c.row - 1) (row_of a.unit)) out (told a)
 
-  first-is : firstOf conditionsOf ≡ cond (eqb (numberOf (front c (length rows))) 0) (firstOf (stepConditions today c.act c r)) (front c (length rows))
-  unfolding front frontConditions
-  first-is =
-      first-append (frontConditions c (length rows)) (stepConditions today c.act c r)
+  first_is : first_refusal conditions_of
+      ≡ cond (eqb (number_of (front c (length rows))) 0) (first_refusal (step_conditions today c.act c r)) (front c (length rows))
+  unfolding front front_conditions
+  first_is =
+      first_append (front_conditions c (length rows)) (step_conditions today c.act c r)
       (λ h. omega (arith, h), (λ h. omega (arith, h), (λ h. omega (arith, h), tt)))
 
   -- refused before any row is read: 1, 4, 12
-  no-row : eqb (numberOf (front c (length rows))) 0 ≡ false
-      → toldCard today (cardRows today c rows) out (cardTold today c rows) ≡ unlessCard today conditionsOf rows out accepts
-  unfolding cardTold cardRows putMessage
-  no-row z =
-      let p = place-none c (length rows) (eqb-false _ _ z) in
-      rw (p, le-leb (length rows) (length rows) (omega arith), first-is, z, z)
+  no_row_lem : eqb (number_of (front c (length rows))) 0 ≡ false
+      → told_card today (card_rows today c rows) out (card_told today c rows) ≡ unless_card today conditions_of rows out accepts
+  unfolding card_told card_rows put_message
+  no_row_lem z =
+      let p = place_none c (length rows) (eqb-false _ _ z) in
+      rw (p, le-leb (length rows) (length rows) (omega arith), first_is, z, z)
 
   -- what the row says
-  on-row : eqb (numberOf (front c (length rows))) 0 ≡ true
-      → toldCard today (cardRows today c rows) out (cardTold today c rows) ≡ unlessCard today conditionsOf rows out accepts
-  unfolding cardTold cardRows stepOf unlessRow putMessage
-  on-row z =
+  on_row : eqb (number_of (front c (length rows))) 0 ≡ true
+      → told_card today (card_rows today c rows) out (card_told today c rows) ≡ unless_card today conditions_of rows out accepts
+  unfolding card_told card_rows step_of unless_row put_message
+  on_row z =
       let zero = eqb-true _ _ z in
-      let p = place-at c (length rows) zero in
-      let k = front-row c (length rows) zero in
+      let p = place_at c (length rows) zero in
+      let k = front_row c (length rows) zero in
       let below : c.row - 1 < length rows = omega (arith, k.0, k.1) in
-      rw (p, lt-leb (length rows) (c.row - 1) below, first-is, z) (by (eqb (numberOf (firstOf (stepConditions today c.act c r))) 0))
+      rw (p, lt-leb (length rows) (c.row - 1) below, first_is, z) (by (eqb (number_of (first_refusal (step_conditions today c.act c r))) 0))
     where
       k : Refusal
-      k = firstOf (stepConditions today c.act c r)
+      k = first_refusal (step_conditions today c.act c r)
 
       by : (t : Bool)
-          → toldCard today (set rows (c.row - 1) (cond t (rowAnswer (rowOf a.unit) (told a)) (rowAnswer r (tells k))).row) out
-          (cond t (rowAnswer (rowOf a.unit) (told a)) (rowAnswer r (tells k))).told
-          ≡ cond t accepts (cardCalled (numberOf k) rows (cleared today out) blankCode)
+          → told_card today (set rows (c.row - 1) (cond t (row_answer (row_of a.unit) (told a)) (row_answer r (tells k))).row) out
+          (cond t (row_answer (row_of a.unit) (told a)) (row_answer r (tells k))).told
+          ≡ cond t accepts (card_called (number_of k) rows (cleared today out) blank_code)
       by true = refl
-      by false = rw (set-get_or rows (c.row - 1) noRow)
+      by false = rw (set-get_or rows (c.row - 1) no_row)
 
   -- a call by value is its conditions in order, and else the step
-  pub asked : toldCard today (cardRows today c rows) out (cardTold today c rows) ≡ unlessCard today conditionsOf rows out accepts
-  asked = go (eqb (numberOf (front c (length rows))) 0) refl
+  pub asked : told_card today (card_rows today c rows) out (card_told today c rows) ≡ unless_card today conditions_of rows out accepts
+  asked = go (eqb (number_of (front c (length rows))) 0) refl
     where
-      go : (t : Bool) → eqb (numberOf (front c (length rows))) 0 ≡ t
-          → toldCard today (cardRows today c rows) out (cardTold today c rows) ≡ unlessCard today conditionsOf rows out accepts
-      go true z = on-row z
-      go false z = no-row z
+      go : (t : Bool) → eqb (number_of (front c (length rows))) 0 ≡ t
+          → told_card today (card_rows today c rows) out (card_told today c rows) ≡ unless_card today conditions_of rows out accepts
+      go true z = on_row z
+      go false z = no_row_lem z
 
 -- ---- a start and a key-on: no output buffer, and no decision
 
-or-false : (b : Bool) → (b || false) ≡ b
-or-false true = refl
-or-false false = refl
+or_false : (b : Bool) → (b || false) ≡ b
+or_false true = refl
+or_false false = refl
 
 or-true : (b : Bool) → (b || true) ≡ true
 or-true true = refl
 or-true false = refl
 
-abbrev numberAndRows : CardAnswer → CardAnswer
-numberAndRows x = cardCalled x.number x.rows [] blankCode
+abbrev number_and_rows : CardAnswer → CardAnswer
+number_and_rows x = card_called x.number x.rows [] blank_code
 
-bare-unless : (cs : List Condition) (rows : List CardRow) (ok : CardAnswer)
-    → numberAndRows (unlessCard today cs rows [] ok) ≡ unlessCard today cs rows [] (numberAndRows ok)
+bare_unless : (cs : List Condition) (rows : List CardRow) (ok : CardAnswer)
+    → number_and_rows (unless_card today cs rows [] ok) ≡ unless_card today cs rows [] (number_and_rows ok)
 unfolding cleared
-bare-unless cs rows ok = go (eqb (numberOf (firstOf cs)) 0)
+bare_unless cs rows ok = go (eqb (number_of (first_refusal cs)) 0)
   where
-    go : (t : Bool) → numberAndRows (cond t ok (cardCalled (numberOf (firstOf cs)) rows (cleared today []) blankCode))
-        ≡ cond t (numberAndRows ok) (cardCalled (numberOf (firstOf cs)) rows (cleared today []) blankCode)
+    go : (t : Bool) → number_and_rows (cond t ok (card_called (number_of (first_refusal cs)) rows (cleared today []) blank_code))
+        ≡ cond t (number_and_rows ok) (card_called (number_of (first_refusal cs)) rows (cleared today []) blank_code)
     go true = refl
     go false = refl
 
@@ -148,35 +150,35 @@ module _ (engine n unit k : ℕ) (rows : List CardRow) where
   -- what such a call says, from what it asks
   abbrev bare : Act → CardAnswer
   bare act =
-      let c = cardCall engine n unit k act in cardCalled (numberOf (cardTold today c rows).refusal) (cardRows today c rows) [] blankCode
+      let c = card_call engine n unit k act in card_called (number_of (card_told today c rows).refusal) (card_rows today c rows) [] blank_code
 
-  bare-asked : (act : Act)
+  bare_asked : (act : Act)
       → bare act
-      ≡ unlessCard today (conditionsOf (cardCall engine n unit k act) rows []) rows [] (numberAndRows (accepts (cardCall engine n unit k act) rows []))
-  bare-asked act = ap numberAndRows (asked (cardCall engine n unit k act) rows []) ∙ bare-unless _ rows _
+      ≡ unless_card today (conditions_of (card_call engine n unit k act) rows []) rows [] (number_and_rows (accepts (card_call engine n unit k act) rows []))
+  bare_asked act = ap number_and_rows (asked (card_call engine n unit k act) rows []) ∙ bare_unless _ rows _
 
-  pub start-asked : bare Act.Start ≡ cardStartCall today (beside engine n unit) rows k
-  unfolding cardStartCall cardStartConditions frontConditions stepConditions stepAnswer firstOf
-  start-asked =
-      bare-asked Act.Start
-      ∙ unless-same (conditionsOf (cardCall engine n unit k Act.Start) rows []) (cardStartConditions (beside engine n unit) k rows) rows [] _ _
-      (rw (or-false (wrongCount (length rows)))) (λ z. refl)
+  pub start_asked : bare Act.Start ≡ card_start_call today (beside engine n unit) rows k
+  unfolding card_start_call card_start_conditions front_conditions step_conditions step_answer first_refusal
+  start_asked =
+      bare_asked Act.Start
+      ∙ unless_same (conditions_of (card_call engine n unit k Act.Start) rows []) (card_start_conditions (beside engine n unit) k rows) rows [] _ _
+      (rw (or_false (wrong_count (length rows)))) (λ z. refl)
 
-  pub key-on-asked : bare Act.KeyOn ≡ cardKeyOnCall today (beside engine n unit) rows k
-  unfolding cardKeyOnCall cardKeyOnConditions frontConditions stepConditions stepAnswer firstOf
-  key-on-asked =
-      bare-asked Act.KeyOn
-      ∙ unless-same (conditionsOf (cardCall engine n unit k Act.KeyOn) rows []) (cardKeyOnConditions today (beside engine n unit) k rows) rows [] _ _
-      (rw (or-false (wrongCount (length rows)))) (λ z. refl)
+  pub key_on_asked : bare Act.KeyOn ≡ card_key_on_call today (beside engine n unit) rows k
+  unfolding card_key_on_call card_key_on_conditions front_conditions step_conditions step_answer first_refusal
+  key_on_asked =
+      bare_asked Act.KeyOn
+      ∙ unless_same (conditions_of (card_call engine n unit k Act.KeyOn) rows []) (card_key_on_conditions today (beside engine n unit) k rows) rows [] _ _
+      (rw (or_false (wrong_count (length rows)))) (λ z. refl)
 
 -- ---- a proposal and a delivery
 
 -- a message in a buffer of its length
-put-is : (m : Message) (out : List ℕ) → eqb (length out) (messageSize today) ≡ true → putMessage today m out ≡ messageBytes today m.kind m
-unfolding putMessage cleared stored messageBytes
-put-is m out e = go m.kind
+put_is : (m : Message) (out : List ℕ) → eqb (length out) (message_size today) ≡ true → put_message today m out ≡ message_bytes today m.kind m
+unfolding put_message cleared stored message_bytes
+put_is m out e = go m.kind
   where
-    go : (k : Kind) → cond (isEmpty k) (cleared today out) (stored (messageFormat today) m out) ≡ messageBytes today k m
+    go : (k : Kind) → cond (is_empty k) (cleared today out) (stored (message_format today) m out) ≡ message_bytes today k m
     go Empty = rw e
     go First = rw e
     go Check = rw e
@@ -184,73 +186,73 @@ put-is m out e = go m.kind
     go Skip = rw e
 
 -- a proposal gives no decision
-abbrev noDecision : CardAnswer → CardAnswer
-noDecision x = cardCalled x.number x.rows x.out blankCode
+abbrev no_decision : CardAnswer → CardAnswer
+no_decision x = card_called x.number x.rows x.out blank_code
 
 module _ (engine n unit : ℕ) (rows : List CardRow) (out : List ℕ) where
   -- what a call says, from what it asks
   abbrev said : CardCall → CardAnswer
-  said c = toldCard today (cardRows today c rows) out (cardTold today c rows)
+  said c = told_card today (card_rows today c rows) out (card_told today c rows)
 
   -- a wrong length is refused first
-  short : (k : ℕ) (cs : List Condition) (ok : CardAnswer) → firstOf cs ≡ Refusal.Length
-      → said (cardCall engine n unit k Act.WrongLength) ≡ unlessCard today cs rows out ok
-  unfolding frontConditions firstOf
+  short : (k : ℕ) (cs : List Condition) (ok : CardAnswer) → first_refusal cs ≡ Refusal.Length
+      → said (card_call engine n unit k Act.WrongLength) ≡ unless_card today cs rows out ok
+  unfolding front_conditions first_refusal
   short k cs ok e =
-      asked (cardCall engine n unit k Act.WrongLength) rows out
-      ∙ unless-same (conditionsOf (cardCall engine n unit k Act.WrongLength) rows out) cs rows out _ ok
-      (rw (or-true (wrongCount (length rows))) (sym e)) (λ z. absurd (omega (arith, sym (ap numberOf e) ∙ z)))
+      asked (card_call engine n unit k Act.WrongLength) rows out
+      ∙ unless_same (conditions_of (card_call engine n unit k Act.WrongLength) rows out) cs rows out _ ok
+      (rw (or-true (wrong_count (length rows))) (sym e)) (λ z. absurd (omega (arith, sym (ap number_of e) ∙ z)))
 
   -- an accepted step is answered as bytes
-  accepted : (k : ℕ) (s : UnitStep) → eqb (length out) (messageSize today) ≡ true
-      → accepts (cardCall engine n unit k (Act.Step s)) rows out ≡ answeredCard today rows k (unitAnswer s (rowUnit today (rowAt rows k)))
-  unfolding stepAnswer
+  accepted : (k : ℕ) (s : UnitStep) → eqb (length out) (message_size today) ≡ true
+      → accepts (card_call engine n unit k (Act.Step s)) rows out ≡ answered_card today rows k (unit_answer s (row_unit today (row_at rows k)))
+  unfolding step_answer
   accepted k s size =
-      rw (unit-plain s (rowUnit today (rowAt rows k)), put-is (unitAnswer s (rowUnit today (rowAt rows k))).message out size)
+      rw (unit_plain s (row_unit today (row_at rows k)), put_is (unit_answer s (row_unit today (row_at rows k))).message out size)
 
   module _ (k v : ℕ) where
-    propose-by : (x : Bool) → wrongLength out (messageSize today) ≡ x
-        → said (cond x (cardCall engine n unit k Act.WrongLength) (cardCall engine n unit k (Act.Step (UnitStep.Propose v))))
-        ≡ cardProposeCall today (beside engine n unit) rows k v out
-    unfolding cardProposeCall cardProposeConditions frontConditions stepConditions unitConditions unitAnswer proposeConditions firstOf
-    propose-by true e = short k (cardProposeConditions today (beside engine n unit) k rows v out) _ (rw (e, or-true (wrongCount (length rows))))
-    propose-by false e =
-        asked (cardCall engine n unit k (Act.Step (UnitStep.Propose v))) rows out
-        ∙ unless-same (conditionsOf (cardCall engine n unit k (Act.Step (UnitStep.Propose v))) rows out)
-        (cardProposeConditions today (beside engine n unit) k rows v out) rows out _ _
+    propose_by : (x : Bool) → wrong_length out (message_size today) ≡ x
+        → said (cond x (card_call engine n unit k Act.WrongLength) (card_call engine n unit k (Act.Step (UnitStep.Propose v))))
+        ≡ card_propose_call today (beside engine n unit) rows k v out
+    unfolding card_propose_call card_propose_conditions front_conditions step_conditions unit_conditions unit_answer propose_conditions first_refusal
+    propose_by true e = short k (card_propose_conditions today (beside engine n unit) k rows v out) _ (rw (e, or-true (wrong_count (length rows))))
+    propose_by false e =
+        asked (card_call engine n unit k (Act.Step (UnitStep.Propose v))) rows out
+        ∙ unless_same (conditions_of (card_call engine n unit k (Act.Step (UnitStep.Propose v))) rows out)
+        (card_propose_conditions today (beside engine n unit) k rows v out) rows out _ _
         (rw e) (λ z. accepted k (UnitStep.Propose v) (not-false _ e))
 
-    silent : noDecision (cardProposeCall today (beside engine n unit) rows k v out) ≡ cardProposeCall today (beside engine n unit) rows k v out
-    unfolding cardProposeCall proposed sendFirst
-    silent = go (eqb (numberOf (firstOf (cardProposeConditions today (beside engine n unit) k rows v out))) 0)
+    silent : no_decision (card_propose_call today (beside engine n unit) rows k v out) ≡ card_propose_call today (beside engine n unit) rows k v out
+    unfolding card_propose_call proposed send_first
+    silent = go (eqb (number_of (first_refusal (card_propose_conditions today (beside engine n unit) k rows v out))) 0)
       where
         ok : CardAnswer
-        ok = answeredCard today rows k (proposed (rowUnit today (rowAt rows k)) v)
+        ok = answered_card today rows k (proposed (row_unit today (row_at rows k)) v)
 
         no : CardAnswer
         no =
-            cardCalled (numberOf (firstOf (cardProposeConditions today (beside engine n unit) k rows v out))) rows (cleared today out) blankCode
+            card_called (number_of (first_refusal (card_propose_conditions today (beside engine n unit) k rows v out))) rows (cleared today out) blank_code
 
-        go : (t : Bool) → noDecision (cond t ok no) ≡ cond t ok no
+        go : (t : Bool) → no_decision (cond t ok no) ≡ cond t ok no
         go true = refl
         go false = refl
 
-    pub propose-asked : (let c = proposeAsks today engine n unit k v (length out) in
-        cardCalled (numberOf (cardTold today c rows).refusal) (cardRows today c rows) (putMessage today (cardTold today c rows).message out) blankCode)
-        ≡ cardProposeCall today (beside engine n unit) rows k v out
-    unfolding proposeAsks
-    propose-asked = ap noDecision (propose-by (wrongLength out (messageSize today)) refl) ∙ silent
+    pub propose_asked : (let c = propose_asks today engine n unit k v (length out) in
+        card_called (number_of (card_told today c rows).refusal) (card_rows today c rows) (put_message today (card_told today c rows).message out) blank_code)
+        ≡ card_propose_call today (beside engine n unit) rows k v out
+    unfolding propose_asks
+    propose_asked = ap no_decision (propose_by (wrong_length out (message_size today)) refl) ∙ silent
 
   module _ (bs : List ℕ) where
     abbrev m : Message
-    m = (readMessage today bs).contents
+    m = (read_message today bs).contents
 
     abbrev asks : Bool → Bool → CardCall
     asks x y =
-        cond x (cardCall engine n unit 0 Act.WrongLength)
-        (cond y (cardCall engine n unit 0 Act.Malformed) (cardCall engine n unit m.entry (Act.Step (UnitStep.Deliver m))))
+        cond x (card_call engine n unit 0 Act.WrongLength)
+        (cond y (card_call engine n unit 0 Act.Malformed) (card_call engine n unit m.entry (Act.Step (UnitStep.Deliver m))))
 
-    refuses : (w : Bool) → numberOf (cond w Refusal.Length Refusal.Message) ≡ 0 → ⊥
+    refuses : (w : Bool) → number_of (cond w Refusal.Length Refusal.Message) ≡ 0 → ⊥
     refuses true z = omega (arith, z)
     refuses false z = omega (arith, z)
 
@@ -258,26 +260,26 @@ module _ (engine n unit : ℕ) (rows : List CardRow) (out : List ℕ) where
     second false b e = e
     second true b e = never (sym e)
 
-    message-read : badMessage today bs ≡ false → messageOk today m ≡ true
-    unfolding badMessage
-    message-read e = message-ok today sane-today bs m (ap (λ (k : ℕ). reading k m) (sym (eqb-true _ _ (not-false _ e))))
+    message_read : bad_message today bs ≡ false → message_ok today m ≡ true
+    unfolding bad_message
+    message_read e = message_ok_lem today sane_today bs m (ap (λ (k : ℕ). reading k m) (sym (eqb-true _ _ (not-false _ e))))
 
-    deliver-by : (x y : Bool) → (wrongLength bs (messageSize today) || wrongLength out (messageSize today)) ≡ x → badMessage today bs ≡ y
-        → said (asks x y) ≡ cardDeliverCall today (beside engine n unit) rows bs out
-    unfolding cardDeliverCall cardDeliverConditions frontConditions stepConditions unitConditions unitAnswer deliverConditions firstOf
-    deliver-by true y e f =
-        short 0 (cardDeliverConditions today (beside engine n unit) m rows bs out) _ (rw (e, or-true (wrongCount (length rows))))
-    deliver-by false true e f =
-        asked (cardCall engine n unit 0 Act.Malformed) rows out
-        ∙ unless-same (conditionsOf (cardCall engine n unit 0 Act.Malformed) rows out)
-        (cardDeliverConditions today (beside engine n unit) m rows bs out) rows out _ _
-        (rw (e, f)) (λ z. absurd (refuses (wrongCount (length rows) || false) (rw (e, f) at z)))
-    deliver-by false false e f =
-        asked (cardCall engine n unit m.entry (Act.Step (UnitStep.Deliver m))) rows out
-        ∙ unless-same (conditionsOf (cardCall engine n unit m.entry (Act.Step (UnitStep.Deliver m))) rows out)
-        (cardDeliverConditions today (beside engine n unit) m rows bs out) rows out _ _
-        (rw (e, f, message-read f)) (λ z. accepted m.entry (UnitStep.Deliver m) (not-false _ (second (wrongLength bs (messageSize today)) _ e)))
+    deliver_by : (x y : Bool) → (wrong_length bs (message_size today) || wrong_length out (message_size today)) ≡ x → bad_message today bs ≡ y
+        → said (asks x y) ≡ card_deliver_call today (beside engine n unit) rows bs out
+    unfolding card_deliver_call card_deliver_conditions front_conditions step_conditions unit_conditions unit_answer deliver_conditions first_refusal
+    deliver_by true y e f =
+        short 0 (card_deliver_conditions today (beside engine n unit) m rows bs out) _ (rw (e, or-true (wrong_count (length rows))))
+    deliver_by false true e f =
+        asked (card_call engine n unit 0 Act.Malformed) rows out
+        ∙ unless_same (conditions_of (card_call engine n unit 0 Act.Malformed) rows out)
+        (card_deliver_conditions today (beside engine n unit) m rows bs out) rows out _ _
+        (rw (e, f)) (λ z. absurd (refuses (wrong_count (length rows) || false) (rw (e, f) at z)))
+    deliver_by false false e f =
+        asked (card_call engine n unit m.entry (Act.Step (UnitStep.Deliver m))) rows out
+        ∙ unless_same (conditions_of (card_call engine n unit m.entry (Act.Step (UnitStep.Deliver m))) rows out)
+        (card_deliver_conditions today (beside engine n unit) m rows bs out) rows out _ _
+        (rw (e, f, message_read f)) (λ z. accepted m.entry (UnitStep.Deliver m) (not-false _ (second (wrong_length bs (message_size today)) _ e)))
 
-    pub deliver-asked : said (deliverAsks today engine n unit bs (length out)) ≡ cardDeliverCall today (beside engine n unit) rows bs out
-    unfolding deliverAsks
-    deliver-asked = deliver-by _ _ refl refl
+    pub deliver_asked : said (deliver_asks today engine n unit bs (length out)) ≡ card_deliver_call today (beside engine n unit) rows bs out
+    unfolding deliver_asks
+    deliver_asked = deliver_by _ _ refl refl

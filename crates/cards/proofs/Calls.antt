@@ -8,250 +8,250 @@ use lib.Dec.{eqb, leb}
 use lib.ListN.{length, get_or, set}
 use lib.Seq.{set-get_or, get_or-set_other}
 use borrow.Author.Tests.{eqb-true, eqb-false, leb-true, not-false}
-use Rattle.tally.specs.Limits.{Limits, blankCode}
-use Rattle.tally.specs.Refusal.{numberOf}
+use Rattle.tally.specs.Limits.{Limits, blank_code}
+use Rattle.tally.specs.Refusal.{number_of}
 use Rattle.tally.proofs.Count.{Each}
 use Rattle.tally.proofs.Never.{never}
-use Rattle.contents.proofs.Tests.{both-true}
+use Rattle.contents.proofs.Tests.{both_true}
 use Rattle.contents.specs.Images.{fits}
 use Rattle.contents.specs.declared.Message.{Message}
-use Rattle.formats.specs.Formats.{fromNumbers}
-use Rattle.formats.specs.Logs.{logFormat}
-use Rattle.formats.specs.Messages.{readMessage, cleared}
-use Rattle.consensus.specs.Conditions.{Condition, conditionNumber, firstOf, NoneHolds}
+use Rattle.formats.specs.Formats.{from_numbers}
+use Rattle.formats.specs.Logs.{log_format}
+use Rattle.formats.specs.Messages.{read_message, cleared}
+use Rattle.consensus.specs.Conditions.{Condition, condition_number, first_refusal, NoneHolds}
 use Rattle.consensus.specs.Step.{fresh, recovered, proposed, received}
-use Rattle.consensus.specs.Units.{unitLog, atLog, downUnit}
+use Rattle.consensus.specs.Units.{unit_log, at_log, down_unit}
 use Rattle.consensus.specs.declared.Unit as U
-use Rattle.consensus.proofs.Answers.{proposed-keeps}
-use Rattle.cards.specs.Calls.{CardAnswer, cardCalled, rowAt, unlessCard, namesNoRow, Beside, badBeside, settingsOfRow, badRowLog, otherRow}
-use Rattle.cards.specs.Calls.{badRowImage, cardStartConditions, cardStartCall, cardKeyOnConditions, cardKeyOnCall, cardProposeConditions}
-use Rattle.cards.specs.Calls.{cardProposeCall, cardDeliverConditions, cardDeliverCall}
+use Rattle.consensus.proofs.Answers.{proposed_keeps}
+use Rattle.cards.specs.Calls.{CardAnswer, card_called, row_at, unless_card, names_no_row, Beside, bad_beside, settings_of_row, bad_row_log, other_row}
+use Rattle.cards.specs.Calls.{bad_row_image, card_start_conditions, card_start_call, card_key_on_conditions, card_key_on_call, card_propose_conditions}
+use Rattle.cards.specs.Calls.{card_propose_call, card_deliver_conditions, card_deliver_call}
 use Rattle.cards.specs.Claims.{OnRow, Alike, Unread}
-use Rattle.cards.specs.Rows.{numbersOf, logFieldsOf, rowLog, rowImage, rowUnit, rowOf, noRow}
+use Rattle.cards.specs.Rows.{numbers_of, log_fields_of, row_log, row_image, row_unit, row_of, no_row}
 use Rattle.cards.specs.declared.CardRow.{CardRow}
 use Rattle.cards.specs.declared.LogFields.{LogFields}
-use Rattle.cards.proofs.Rows.{log-forth, row-forth}
+use Rattle.cards.proofs.Rows.{log_forth, row_forth}
 
 -- ---- conditions
 
 -- no condition's number is 0
 abbrev pub Named : List Condition → Type 0
-Named cs = Each (λ r. conditionNumber r ≡ 0 → ⊥) cs
+Named cs = Each (λ r. condition_number r ≡ 0 → ⊥) cs
 
-pub none-holds : (cs : List Condition) → Named cs → numberOf (firstOf cs) ≡ 0 → NoneHolds cs
-unfolding firstOf
-none-holds [] h e = tt
-none-holds (r ∷ rs) h e = go r.holds refl e (none-holds rs h.1)
+pub none_holds : (cs : List Condition) → Named cs → number_of (first_refusal cs) ≡ 0 → NoneHolds cs
+unfolding first_refusal
+none_holds [] h e = tt
+none_holds (r ∷ rs) h e = go r.holds refl e (none_holds rs h.1)
   where
-    go : (b : Bool) → r.holds ≡ b → numberOf (cond b r.refusal (firstOf rs)) ≡ 0 → (numberOf (firstOf rs) ≡ 0 → NoneHolds rs)
+    go : (b : Bool) → r.holds ≡ b → number_of (cond b r.refusal (first_refusal rs)) ≡ 0 → (number_of (first_refusal rs) ≡ 0 → NoneHolds rs)
         → (r.holds ≡ false) × NoneHolds rs
     go true q z f = absurd (h.0 z)
     go false q z f = (q, f z)
 
-holds-none : (cs : List Condition) → NoneHolds cs → numberOf (firstOf cs) ≡ 0
-unfolding firstOf
-holds-none [] h = refl
-holds-none (r ∷ rs) h = rw h.0 (holds-none rs h.1)
+holds_none : (cs : List Condition) → NoneHolds cs → number_of (first_refusal cs) ≡ 0
+unfolding first_refusal
+holds_none [] h = refl
+holds_none (r ∷ rs) h = rw h.0 (holds_none rs h.1)
 
 module _ (l : Limits) (cs : List Condition) (named : Named cs) (rows : List CardRow) (k : ℕ) (there : NoneHolds cs → 1 ≤ k) (x : CardRow)
     (out : List ℕ) where
   -- a call that, accepted, stores x in row k
-  on-row : (sent : List ℕ) (d : ℕ) → OnRow l cs rows k x out (unlessCard l cs rows out (cardCalled 0 (set rows (k - 1) x) sent d))
-  on-row sent d = go (eqb (numberOf (firstOf cs)) 0) refl
+  on_row : (sent : List ℕ) (d : ℕ) → OnRow l cs rows k x out (unless_card l cs rows out (card_called 0 (set rows (k - 1) x) sent d))
+  on_row sent d = go (eqb (number_of (first_refusal cs)) 0) refl
     where
-      go : (b : Bool) → eqb (numberOf (firstOf cs)) 0 ≡ b
+      go : (b : Bool) → eqb (number_of (first_refusal cs)) 0 ≡ b
           → OnRow l cs rows k x out
-          (cond b (cardCalled 0 (set rows (k - 1) x) sent d) (cardCalled (numberOf (firstOf cs)) rows (cleared l out) blankCode))
+          (cond b (card_called 0 (set rows (k - 1) x) sent d) (card_called (number_of (first_refusal cs)) rows (cleared l out) blank_code))
       go true e =
-          let z = eqb-true (numberOf (firstOf cs)) 0 e in
+          let z = eqb-true (number_of (first_refusal cs)) 0 e in
           record {
             number = sym z;
-            accepted = λ q. none-holds cs named z;
+            accepted = λ q. none_holds cs named z;
             none = λ h. refl;
             refused = λ n. absurd (n refl);
             stored = λ q. refl;
-            others = λ j h n. get_or-set_other rows (k - 1) (j - 1) x noRow (λ q. n (omega (arith, q, there (none-holds cs named z))));
+            others = λ j h n. get_or-set_other rows (k - 1) (j - 1) x no_row (λ q. n (omega (arith, q, there (none_holds cs named z))));
           }
       go false e =
           record {
             number = refl;
-            accepted = λ q. absurd (eqb-false (numberOf (firstOf cs)) 0 e q);
-            none = λ h. absurd (eqb-false (numberOf (firstOf cs)) 0 e (holds-none cs h));
+            accepted = λ q. absurd (eqb-false (number_of (first_refusal cs)) 0 e q);
+            none = λ h. absurd (eqb-false (number_of (first_refusal cs)) 0 e (holds_none cs h));
             refused = λ n. refl;
-            stored = λ q. absurd (eqb-false (numberOf (firstOf cs)) 0 e q);
+            stored = λ q. absurd (eqb-false (number_of (first_refusal cs)) 0 e q);
             others = λ j h n. refl;
           }
 
 -- ---- rows
 
 -- what is stored at a place of two lists of one length
-set-alike : (xs ys : List CardRow) (i : ℕ) (x : CardRow) → length xs ≡ length ys → get_or (set xs i x) i noRow ≡ get_or (set ys i x) i noRow
-set-alike [] [] i x e = refl
-set-alike [] (y ∷ ys) i x e = absurd (omega (arith, e))
-set-alike (z ∷ xs) [] i x e = absurd (omega (arith, e))
-set-alike (z ∷ xs) (y ∷ ys) zero x e = refl
-set-alike (z ∷ xs) (y ∷ ys) (suc i) x e = set-alike xs ys i x (omega (arith, e))
+set_alike : (xs ys : List CardRow) (i : ℕ) (x : CardRow) → length xs ≡ length ys → get_or (set xs i x) i no_row ≡ get_or (set ys i x) i no_row
+set_alike [] [] i x e = refl
+set_alike [] (y ∷ ys) i x e = absurd (omega (arith, e))
+set_alike (z ∷ xs) [] i x e = absurd (omega (arith, e))
+set_alike (z ∷ xs) (y ∷ ys) zero x e = refl
+set_alike (z ∷ xs) (y ∷ ys) (suc i) x e = set_alike xs ys i x (omega (arith, e))
 
-unless-alike : (l : Limits) (cs : List Condition) (rows rows' : List CardRow) (k : ℕ) → length rows ≡ length rows'
-    → rowAt rows k ≡ rowAt rows' k → (x : CardRow) (out sent : List ℕ) (d : ℕ)
-    → Alike k (unlessCard l cs rows out (cardCalled 0 (set rows (k - 1) x) sent d))
-    (unlessCard l cs rows' out (cardCalled 0 (set rows' (k - 1) x) sent d))
-unless-alike l cs rows rows' k len same x out sent d = go (eqb (numberOf (firstOf cs)) 0)
+unless_alike : (l : Limits) (cs : List Condition) (rows rows' : List CardRow) (k : ℕ) → length rows ≡ length rows'
+    → row_at rows k ≡ row_at rows' k → (x : CardRow) (out sent : List ℕ) (d : ℕ)
+    → Alike k (unless_card l cs rows out (card_called 0 (set rows (k - 1) x) sent d))
+    (unless_card l cs rows' out (card_called 0 (set rows' (k - 1) x) sent d))
+unless_alike l cs rows rows' k len same x out sent d = go (eqb (number_of (first_refusal cs)) 0)
   where
     go : (b : Bool)
-        → Alike k (cond b (cardCalled 0 (set rows (k - 1) x) sent d) (cardCalled (numberOf (firstOf cs)) rows (cleared l out) blankCode))
-        (cond b (cardCalled 0 (set rows' (k - 1) x) sent d) (cardCalled (numberOf (firstOf cs)) rows' (cleared l out) blankCode))
-    go true = record { number = refl; out = refl; decision = refl; row = set-alike rows rows' (k - 1) x len }
+        → Alike k (cond b (card_called 0 (set rows (k - 1) x) sent d) (card_called (number_of (first_refusal cs)) rows (cleared l out) blank_code))
+        (cond b (card_called 0 (set rows' (k - 1) x) sent d) (card_called (number_of (first_refusal cs)) rows' (cleared l out) blank_code))
+    go true = record { number = refl; out = refl; decision = refl; row = set_alike rows rows' (k - 1) x len }
     go false = record { number = refl; out = refl; decision = refl; row = same }
 
-named-row : (count k : ℕ) → namesNoRow count k ≡ false → 1 ≤ k
-unfolding namesNoRow
-named-row count k h = leb-true 1 k (both-true (leb 1 k) (leb k count) (not-false _ h)).0
+named_row : (count k : ℕ) → names_no_row count k ≡ false → 1 ≤ k
+unfolding names_no_row
+named_row count k h = leb-true 1 k (both_true (leb 1 k) (leb k count) (not-false _ h)).0
 
 -- what the conditions of 2 and 3 say where they do not hold
-or-second : (a b : Bool) → (a || b) ≡ false → b ≡ false
-or-second false b e = e
-or-second true b e = never (sym e)
+or_second : (a b : Bool) → (a || b) ≡ false → b ≡ false
+or_second false b e = e
+or_second true b e = never (sym e)
 
-log-read : (l : Limits) (r : CardRow) → badRowLog l r ≡ false → (rowLog l r).number ≡ 0
-unfolding badRowLog
-log-read l r h = eqb-true _ _ (not-false _ h)
+log_read : (l : Limits) (r : CardRow) → bad_row_log l r ≡ false → (row_log l r).number ≡ 0
+unfolding bad_row_log
+log_read l r h = eqb-true _ _ (not-false _ h)
 
-image-read : (l : Limits) (r : CardRow) → badRowImage l r ≡ false
-    → ((rowImage l r).number ≡ 0) × (fits (rowImage l r).contents (rowLog l r).contents ≡ true)
-unfolding badRowImage
-image-read l r h = let t = both-true (eqb (rowImage l r).number 0) _ (not-false _ h) in (eqb-true _ _ t.0, t.1)
+image_read : (l : Limits) (r : CardRow) → bad_row_image l r ≡ false
+    → ((row_image l r).number ≡ 0) × (fits (row_image l r).contents (row_log l r).contents ≡ true)
+unfolding bad_row_image
+image_read l r h = let t = both_true (eqb (row_image l r).number 0) _ (not-false _ h) in (eqb-true _ _ t.0, t.1)
 
 -- the row of the unit that a row holds, where 2 and 3 do not hold of it
-row-same : (l : Limits) (r : CardRow) (a b : Bool) → (a || badRowLog l r) ≡ false → (b || badRowImage l r) ≡ false → rowOf (rowUnit l r) ≡ r
-row-same l r a b two three =
-    let i = image-read l r (or-second b _ three) in
-    row-forth l r (log-read l r (or-second a _ two)) i.0 i.1
+row_same : (l : Limits) (r : CardRow) (a b : Bool) → (a || bad_row_log l r) ≡ false → (b || bad_row_image l r) ≡ false → row_of (row_unit l r) ≡ r
+row_same l r a b two three =
+    let i = image_read l r (or_second b _ three) in
+    row_forth l r (log_read l r (or_second a _ two)) i.0 i.1
 
 -- a part of a row that stays where the row is stored, also past the end
-pub kept-part : {A : Type 0} (f : CardRow → A) (rows : List CardRow) (i : ℕ) (r : CardRow) → f r ≡ f (get_or rows i noRow)
-    → f (get_or (set rows i r) i noRow) ≡ f (get_or rows i noRow)
-kept-part f [] i r e = refl
-kept-part f (x ∷ xs) zero r e = e
-kept-part f (x ∷ xs) (suc i) r e = kept-part f xs i r e
+pub kept_part : {A : Type 0} (f : CardRow → A) (rows : List CardRow) (i : ℕ) (r : CardRow) → f r ≡ f (get_or rows i no_row)
+    → f (get_or (set rows i r) i no_row) ≡ f (get_or rows i no_row)
+kept_part f [] i r e = refl
+kept_part f (x ∷ xs) zero r e = e
+kept_part f (x ∷ xs) (suc i) r e = kept_part f xs i r e
 
 -- and so of an accepted call
-keeps-part : {A : Type 0} (f : CardRow → A) {l : Limits} {cs : List Condition} {rows : List CardRow} {k : ℕ} {x : CardRow} {out : List ℕ}
-    {a : CardAnswer} → OnRow l cs rows k x out a → a.number ≡ 0 → f x ≡ f (rowAt rows k) → f (rowAt a.rows k) ≡ f (rowAt rows k)
-keeps-part f {k = k} o z e = ap (λ (rs : List CardRow). f (rowAt rs k)) (o.stored z) ∙ kept-part f _ (k - 1) _ e
+keeps_part : {A : Type 0} (f : CardRow → A) {l : Limits} {cs : List Condition} {rows : List CardRow} {k : ℕ} {x : CardRow} {out : List ℕ}
+    {a : CardAnswer} → OnRow l cs rows k x out a → a.number ≡ 0 → f x ≡ f (row_at rows k) → f (row_at a.rows k) ≡ f (row_at rows k)
+keeps_part f {k = k} o z e = ap (λ (rs : List CardRow). f (row_at rs k)) (o.stored z) ∙ kept_part f _ (k - 1) _ e
 
 -- ---- the four calls
 
 module _ (l : Limits) (b : Beside) (rows rows' : List CardRow) (len : length rows ≡ length rows') where
   module _ (k : ℕ) where
-    pub start-on-row : OnRow l (cardStartConditions b k rows) rows k (rowOf (fresh (settingsOfRow b k))) [] (cardStartCall l b rows k)
-    unfolding cardStartCall cardStartConditions
-    start-on-row =
-        on-row l _ (λ h. omega (arith, h), (λ h. omega (arith, h), (λ h. omega (arith, h), tt))) rows k (λ h. named-row _ _ h.1.0) _ [] []
-        blankCode
+    pub start_on_row : OnRow l (card_start_conditions b k rows) rows k (row_of (fresh (settings_of_row b k))) [] (card_start_call l b rows k)
+    unfolding card_start_call card_start_conditions
+    start_on_row =
+        on_row l _ (λ h. omega (arith, h), (λ h. omega (arith, h), (λ h. omega (arith, h), tt))) rows k (λ h. named_row _ _ h.1.0) _ [] []
+        blank_code
 
-    pub start-alike : rowAt rows k ≡ rowAt rows' k → Alike k (cardStartCall l b rows k) (cardStartCall l b rows' k)
-    unfolding cardStartCall cardStartConditions
-    start-alike same = rw len (unless-alike l _ rows rows' k len same _ [] [] blankCode)
+    pub start_alike : row_at rows k ≡ row_at rows' k → Alike k (card_start_call l b rows k) (card_start_call l b rows' k)
+    unfolding card_start_call card_start_conditions
+    start_alike same = rw len (unless_alike l _ rows rows' k len same _ [] [] blank_code)
 
-    pub key-on-on-row : OnRow l (cardKeyOnConditions l b k rows) rows k (rowOf (recovered (downUnit (rowLog l (rowAt rows k)).contents))) []
-        (cardKeyOnCall l b rows k)
-    unfolding cardKeyOnCall cardKeyOnConditions
-    key-on-on-row =
-        on-row l _ (λ h. omega (arith, h), (λ h. omega (arith, h), (λ h. omega (arith, h), (λ h. omega (arith, h), tt)))) rows k
-        (λ h. named-row _ _ h.1.0) _ [] [] blankCode
+    pub key_on_on_row : OnRow l (card_key_on_conditions l b k rows) rows k (row_of (recovered (down_unit (row_log l (row_at rows k)).contents))) []
+        (card_key_on_call l b rows k)
+    unfolding card_key_on_call card_key_on_conditions
+    key_on_on_row =
+        on_row l _ (λ h. omega (arith, h), (λ h. omega (arith, h), (λ h. omega (arith, h), (λ h. omega (arith, h), tt)))) rows k
+        (λ h. named_row _ _ h.1.0) _ [] [] blank_code
 
     -- key-on leaves the row's log to the last number
-    pub key-on-keeps-log : (cardKeyOnCall l b rows k).number ≡ 0 → (rowAt (cardKeyOnCall l b rows k).rows k).log ≡ (rowAt rows k).log
-    unfolding cardKeyOnConditions recovered downUnit atLog
-    key-on-keeps-log z =
-        keeps-part (λ (r : CardRow). r.log) key-on-on-row z
-        (log-forth l (rowAt rows k) (log-read l (rowAt rows k) (or-second (badBeside b k) _ (key-on-on-row.accepted z).1.1.0)))
+    pub key_on_keeps_log : (card_key_on_call l b rows k).number ≡ 0 → (row_at (card_key_on_call l b rows k).rows k).log ≡ (row_at rows k).log
+    unfolding card_key_on_conditions recovered down_unit at_log
+    key_on_keeps_log z =
+        keeps_part (λ (r : CardRow). r.log) key_on_on_row z
+        (log_forth l (row_at rows k) (log_read l (row_at rows k) (or_second (bad_beside b k) _ (key_on_on_row.accepted z).1.1.0)))
 
-    pub key-on-alike : rowAt rows k ≡ rowAt rows' k → Alike k (cardKeyOnCall l b rows k) (cardKeyOnCall l b rows' k)
-    unfolding cardKeyOnCall cardKeyOnConditions
-    key-on-alike same = rw (len, same) (unless-alike l _ rows rows' k len same _ [] [] blankCode)
+    pub key_on_alike : row_at rows k ≡ row_at rows' k → Alike k (card_key_on_call l b rows k) (card_key_on_call l b rows' k)
+    unfolding card_key_on_call card_key_on_conditions
+    key_on_alike same = rw (len, same) (unless_alike l _ rows rows' k len same _ [] [] blank_code)
 
     module _ (v : ℕ) (out : List ℕ) where
-      pub propose-on-row : OnRow l (cardProposeConditions l b k rows v out) rows k (rowOf (proposed (rowUnit l (rowAt rows k)) v).unit) out
-          (cardProposeCall l b rows k v out)
-      unfolding cardProposeCall cardProposeConditions
-      propose-on-row =
-          on-row l _
+      pub propose_on_row : OnRow l (card_propose_conditions l b k rows v out) rows k (row_of (proposed (row_unit l (row_at rows k)) v).unit) out
+          (card_propose_call l b rows k v out)
+      unfolding card_propose_call card_propose_conditions
+      propose_on_row =
+          on_row l _
           (λ h. omega (arith, h), (λ h. omega (arith, h), (λ h. omega (arith, h), (λ h. omega (arith, h), (λ h. omega (arith, h), tt))))) rows k
-          (λ h. named-row _ _ h.1.0) _ out _ _
+          (λ h. named_row _ _ h.1.0) _ out _ _
 
-      pub propose-alike : rowAt rows k ≡ rowAt rows' k → Alike k (cardProposeCall l b rows k v out) (cardProposeCall l b rows' k v out)
-      unfolding cardProposeCall cardProposeConditions
-      propose-alike same = rw (len, same) (unless-alike l _ rows rows' k len same _ out _ _)
+      pub propose_alike : row_at rows k ≡ row_at rows' k → Alike k (card_propose_call l b rows k v out) (card_propose_call l b rows' k v out)
+      unfolding card_propose_call card_propose_conditions
+      propose_alike same = rw (len, same) (unless_alike l _ rows rows' k len same _ out _ _)
 
       -- whatever part of its row's unit a proposal leaves, it leaves in the row to the last number
-      pub propose-keeps-part : {A : Type 0} (f : CardRow → A) → (cardProposeCall l b rows k v out).number ≡ 0
-          → f (rowOf (proposed (rowUnit l (rowAt rows k)) v).unit) ≡ f (rowOf (rowUnit l (rowAt rows k)))
-          → f (rowAt (cardProposeCall l b rows k v out).rows k) ≡ f (rowAt rows k)
-      unfolding cardProposeConditions
-      propose-keeps-part f z same =
-          let t = propose-on-row.accepted z in
-          keeps-part f propose-on-row z (same ∙ ap f (row-same l (rowAt rows k) _ _ t.1.1.0 t.1.1.1.0))
+      pub propose_keeps_part : {A : Type 0} (f : CardRow → A) → (card_propose_call l b rows k v out).number ≡ 0
+          → f (row_of (proposed (row_unit l (row_at rows k)) v).unit) ≡ f (row_of (row_unit l (row_at rows k)))
+          → f (row_at (card_propose_call l b rows k v out).rows k) ≡ f (row_at rows k)
+      unfolding card_propose_conditions
+      propose_keeps_part f z same =
+          let t = propose_on_row.accepted z in
+          keeps_part f propose_on_row z (same ∙ ap f (row_same l (row_at rows k) _ _ t.1.1.0 t.1.1.1.0))
 
       -- and so the log
-      pub propose-keeps-log : (cardProposeCall l b rows k v out).number ≡ 0
-          → (rowAt (cardProposeCall l b rows k v out).rows k).log ≡ (rowAt rows k).log
-      propose-keeps-log z = propose-keeps-part (λ (r : CardRow). r.log) z (ap logFieldsOf (proposed-keeps (rowUnit l (rowAt rows k)) v).0)
+      pub propose_keeps_log : (card_propose_call l b rows k v out).number ≡ 0
+          → (row_at (card_propose_call l b rows k v out).rows k).log ≡ (row_at rows k).log
+      propose_keeps_log z = propose_keeps_part (λ (r : CardRow). r.log) z (ap log_fields_of (proposed_keeps (row_unit l (row_at rows k)) v).0)
 
   module _ (bs out : List ℕ) where
     abbrev m : Message
-    m = (readMessage l bs).contents
+    m = (read_message l bs).contents
 
     -- the row of the message's entry
-    pub deliver-on-row : OnRow l (cardDeliverConditions l b m rows bs out) rows m.entry
-        (rowOf (received (rowUnit l (rowAt rows m.entry)) m).unit) out (cardDeliverCall l b rows bs out)
-    unfolding cardDeliverCall cardDeliverConditions
-    deliver-on-row =
-        on-row l _ (
+    pub deliver_on_row : OnRow l (card_deliver_conditions l b m rows bs out) rows m.entry
+        (row_of (received (row_unit l (row_at rows m.entry)) m).unit) out (card_deliver_call l b rows bs out)
+    unfolding card_deliver_call card_deliver_conditions
+    deliver_on_row =
+        on_row l _ (
           λ h. omega (arith, h),
           (
             λ h. omega (arith, h),
             (λ h. omega (arith, h), (λ h. omega (arith, h), (λ h. omega (arith, h), (λ h. omega (arith, h), (λ h. omega (arith, h), tt))))),
           ),
-        ) rows m.entry (λ h. named-row _ _ h.1.1.0) _ out _ _
+        ) rows m.entry (λ h. named_row _ _ h.1.1.0) _ out _ _
 
-    pub deliver-alike : rowAt rows m.entry ≡ rowAt rows' m.entry
-        → Alike m.entry (cardDeliverCall l b rows bs out) (cardDeliverCall l b rows' bs out)
-    unfolding cardDeliverCall cardDeliverConditions
-    deliver-alike same = rw (len, same) (unless-alike l _ rows rows' m.entry len same _ out _ _)
+    pub deliver_alike : row_at rows m.entry ≡ row_at rows' m.entry
+        → Alike m.entry (card_deliver_call l b rows bs out) (card_deliver_call l b rows' bs out)
+    unfolding card_deliver_call card_deliver_conditions
+    deliver_alike same = rw (len, same) (unless_alike l _ rows rows' m.entry len same _ out _ _)
 
     -- the row of an accepted delivery is the row of the unit that it holds
-    delivered-same : (cardDeliverCall l b rows bs out).number ≡ 0 → rowOf (rowUnit l (rowAt rows m.entry)) ≡ rowAt rows m.entry
-    unfolding cardDeliverConditions
-    delivered-same z = let t = deliver-on-row.accepted z in row-same l (rowAt rows m.entry) _ _ t.1.1.1.0 t.1.1.1.1.0
+    delivered_same : (card_deliver_call l b rows bs out).number ≡ 0 → row_of (row_unit l (row_at rows m.entry)) ≡ row_at rows m.entry
+    unfolding card_deliver_conditions
+    delivered_same z = let t = deliver_on_row.accepted z in row_same l (row_at rows m.entry) _ _ t.1.1.1.0 t.1.1.1.1.0
 
     -- whatever part of its row's unit a delivery leaves, it leaves in the row to the last number
-    pub deliver-keeps-part : {A : Type 0} (f : CardRow → A) → (cardDeliverCall l b rows bs out).number ≡ 0
-        → f (rowOf (received (rowUnit l (rowAt rows m.entry)) m).unit) ≡ f (rowOf (rowUnit l (rowAt rows m.entry)))
-        → f (rowAt (cardDeliverCall l b rows bs out).rows m.entry) ≡ f (rowAt rows m.entry)
-    deliver-keeps-part f z same = keeps-part f deliver-on-row z (same ∙ ap f (delivered-same z))
+    pub deliver_keeps_part : {A : Type 0} (f : CardRow → A) → (card_deliver_call l b rows bs out).number ≡ 0
+        → f (row_of (received (row_unit l (row_at rows m.entry)) m).unit) ≡ f (row_of (row_unit l (row_at rows m.entry)))
+        → f (row_at (card_deliver_call l b rows bs out).rows m.entry) ≡ f (row_at rows m.entry)
+    deliver_keeps_part f z same = keeps_part f deliver_on_row z (same ∙ ap f (delivered_same z))
 
     -- and so the log, where none is written
-    pub deliver-keeps-log : (cardDeliverCall l b rows bs out).number ≡ 0
-        → unitLog (received (rowUnit l (rowAt rows m.entry)) m).unit ≡ unitLog (rowUnit l (rowAt rows m.entry))
-        → (rowAt (cardDeliverCall l b rows bs out).rows m.entry).log ≡ (rowAt rows m.entry).log
-    deliver-keeps-log z same = deliver-keeps-part (λ (r : CardRow). r.log) z (ap logFieldsOf same)
+    pub deliver_keeps_log : (card_deliver_call l b rows bs out).number ≡ 0
+        → unit_log (received (row_unit l (row_at rows m.entry)) m).unit ≡ unit_log (row_unit l (row_at rows m.entry))
+        → (row_at (card_deliver_call l b rows bs out).rows m.entry).log ≡ (row_at rows m.entry).log
+    deliver_keeps_log z same = deliver_keeps_part (λ (r : CardRow). r.log) z (ap log_fields_of same)
 
     -- a delivery that changes nothing of the row's unit leaves every row to the last number
-    pub deliver-keeps : (cardDeliverCall l b rows bs out).number ≡ 0
-        → (received (rowUnit l (rowAt rows m.entry)) m).unit ≡ rowUnit l (rowAt rows m.entry) → (cardDeliverCall l b rows bs out).rows ≡ rows
-    deliver-keeps z same =
-        deliver-on-row.stored z
-        ∙ ap (λ (x : U.Unit). set rows (m.entry - 1) (rowOf x)) same
-        ∙ ap (set rows (m.entry - 1)) (delivered-same z)
-        ∙ set-get_or rows (m.entry - 1) noRow
+    pub deliver_keeps : (card_deliver_call l b rows bs out).number ≡ 0
+        → (received (row_unit l (row_at rows m.entry)) m).unit ≡ row_unit l (row_at rows m.entry) → (card_deliver_call l b rows bs out).rows ≡ rows
+    deliver_keeps z same =
+        deliver_on_row.stored z
+        ∙ ap (λ (x : U.Unit). set rows (m.entry - 1) (row_of x)) same
+        ∙ ap (set rows (m.entry - 1)) (delivered_same z)
+        ∙ set-get_or rows (m.entry - 1) no_row
 
 -- ---- what is not read
 
-same-log : (l : Limits) (r r' : CardRow) → r.log ≡ r'.log → rowLog l r ≡ rowLog l r'
-unfolding rowLog
-same-log l r r' e = ap (λ (f : LogFields). fromNumbers (logFormat l) (numbersOf f)) e
+same_log : (l : Limits) (r r' : CardRow) → r.log ≡ r'.log → row_log l r ≡ row_log l r'
+unfolding row_log
+same_log l r r' e = ap (λ (f : LogFields). from_numbers (log_format l) (numbers_of f)) e
 
 module _ (l : Limits) (b : Beside) (rows rows' : List CardRow) (len : length rows ≡ length rows') (k : ℕ) where
   -- calls with the same conditions that store the same
@@ -262,20 +262,20 @@ module _ (l : Limits) (b : Beside) (rows rows' : List CardRow) (len : length row
         number = same;
         row =
             λ z.
-            ap (λ (rs : List CardRow). rowAt rs k) (p.stored z)
-            ∙ set-alike rows rows' (k - 1) x len
-            ∙ sym (ap (λ (rs : List CardRow). rowAt rs k) (q.stored (sym same ∙ z)));
+            ap (λ (rs : List CardRow). row_at rs k) (p.stored z)
+            ∙ set_alike rows rows' (k - 1) x len
+            ∙ sym (ap (λ (rs : List CardRow). row_at rs k) (q.stored (sym same ∙ z)));
       }
 
   -- starting reads no row
-  pub start-unread : Unread k (cardStartCall l b rows k) (cardStartCall l b rows' k)
-  unfolding cardStartConditions
-  start-unread =
-      unread (cardStartConditions b k rows) _ [] _ _ (start-on-row l b rows rows refl k) (rw len (start-on-row l b rows' rows' refl k))
+  pub start_unread : Unread k (card_start_call l b rows k) (card_start_call l b rows' k)
+  unfolding card_start_conditions
+  start_unread =
+      unread (card_start_conditions b k rows) _ [] _ _ (start_on_row l b rows rows refl k) (rw len (start_on_row l b rows' rows' refl k))
 
   -- key-on reads the row's log alone
-  pub key-on-unread : (rowAt rows k).log ≡ (rowAt rows' k).log → Unread k (cardKeyOnCall l b rows k) (cardKeyOnCall l b rows' k)
-  unfolding cardKeyOnConditions badRowLog otherRow
-  key-on-unread same =
-      let read = same-log l (rowAt rows k) (rowAt rows' k) same in
-      unread (cardKeyOnConditions l b k rows) _ [] _ _ (key-on-on-row l b rows rows refl k) (rw (len, read) (key-on-on-row l b rows' rows' refl k))
+  pub key_on_unread : (row_at rows k).log ≡ (row_at rows' k).log → Unread k (card_key_on_call l b rows k) (card_key_on_call l b rows' k)
+  unfolding card_key_on_conditions bad_row_log other_row
+  key_on_unread same =
+      let read = same_log l (row_at rows k) (row_at rows' k) same in
+      unread (card_key_on_conditions l b k rows) _ [] _ _ (key_on_on_row l b rows rows refl k) (rw (len, read) (key_on_on_row l b rows' rows' refl k))

@@ -1,31 +1,32 @@
 -- What inner functions of card_rows and card_calls promise, of which no public call's contract speaks: a call by value, which row it is of,
 -- and the step of that row. Assumes nothing.
 use Rattle.std.specs.Prelude.{ℕ, ◌-◌, Bool, true, false, not, cond, ◌&&◌, ◌||◌, List, [], ◌∷◌, eqb, leb, length, get_or, set}
-use Rattle.tally.specs.Limits.{Limits, messageSize}
-use Rattle.tally.specs.Refusal.{numberOf}
-use Rattle.tally.specs.Tally.{noMarks}
+use Rattle.tally.specs.Limits.{Limits, message_size}
+use Rattle.tally.specs.Refusal.{number_of}
+use Rattle.tally.specs.Tally.{no_marks}
 use Rattle.tally.specs.declared.Estimate.TheVariants.{Blank}
 use Rattle.tally.specs.declared.Refusal.{Refusal}
-use Rattle.contents.specs.Estimates.{isB}
-use Rattle.contents.specs.Images.{tallyOk, checksAllowed, fits}
-use Rattle.contents.specs.Messages.{isEmpty, emptyMessage}
+use Rattle.contents.specs.Estimates.{is_b}
+use Rattle.contents.specs.Images.{tally_ok, checks_allowed, fits}
+use Rattle.contents.specs.Messages.{is_empty, empty_message}
 use Rattle.contents.specs.declared.Log.{Log}
 use Rattle.contents.specs.declared.Message.{Message}
-use Rattle.formats.specs.Codes.{codeOf}
+use Rattle.formats.specs.Codes.{code_of}
 use Rattle.formats.specs.Formats.{ReadAnswer}
-use Rattle.formats.specs.Images.{withTallies}
+use Rattle.formats.specs.Images.{with_tallies}
 use Rattle.formats.specs.InnerFormats.{stored}
-use Rattle.formats.specs.Messages.{messageFormat, readMessage, cleared}
+use Rattle.formats.specs.Messages.{message_format, read_message, cleared}
 use Rattle.formats.specs.declared.LogRead.{LogRead}
-use Rattle.consensus.specs.Conditions.{Condition, condition, firstOf}
-use Rattle.consensus.specs.Methods.{proposeConditions, propose, deliverConditions, deliver}
+use Rattle.consensus.specs.Conditions.{Condition, condition, first_refusal}
+use Rattle.consensus.specs.Methods.{propose_conditions, propose, deliver_conditions, deliver}
 use Rattle.consensus.specs.Step.{quiet, fresh, recovered, proposed, received}
-use Rattle.consensus.specs.Units.{upUnit, downUnit}
+use Rattle.consensus.specs.Units.{up_unit, down_unit}
 use Rattle.consensus.specs.declared.Answer.{Answer}
 use Rattle.consensus.specs.declared.Unit as U
-use Rattle.calls.specs.Calls.{wrongLength, badMessage}
-use Rattle.cards.specs.Calls.{CardAnswer, cardCalled, Beside, beside, wrongCount, namesNoRow, badBeside, settingsOfRow, badRowLog, otherRow, badRowImage}
-use Rattle.cards.specs.Rows.{marksFit, rowTally, logFieldsOf, tallyFieldsOf, rowLog, rowImage, rowUnit, rowOf, noRow}
+use Rattle.calls.specs.Calls.{wrong_length, bad_message}
+use Rattle.cards.specs.Calls.{CardAnswer, card_called, Beside, beside, wrong_count, names_no_row, bad_beside, settings_of_row, bad_row_log, other_row}
+use Rattle.cards.specs.Calls.{bad_row_image}
+use Rattle.cards.specs.Rows.{marks_fit, row_tally, log_fields_of, tally_fields_of, row_log, row_image, row_unit, row_of, no_row}
 use Rattle.cards.specs.declared.Act.{Act}
 use Rattle.cards.specs.declared.Act.TheVariants.{WrongLength, Malformed, Start, KeyOn, Step}
 use Rattle.cards.specs.declared.CardCall.{CardCall}
@@ -39,168 +40,168 @@ use Rattle.cards.specs.declared.UnitStep.TheVariants.{Propose, Deliver}
 -- ---- what is read
 
 -- the code's answer
-abbrev pub logReadOf : ReadAnswer Log → LogRead
-logReadOf x = cond (eqb x.number 0) (LogRead.Read x.contents) (LogRead.Refused Refusal.Log)
+abbrev pub log_read_of : ReadAnswer Log → LogRead
+log_read_of x = cond (eqb x.number 0) (LogRead.Read x.contents) (LogRead.Refused Refusal.Log)
 
-abbrev pub besideOf : CardCall → Beside
-besideOf c = beside c.engine c.n c.unit
+abbrev pub beside_of : CardCall → Beside
+beside_of c = beside c.engine c.n c.unit
 
 -- the settings beside the card, with the row's number as the entry, where they are in range
-abbrev pub settingsRead : CardCall → SettingsRead
-settingsRead c = cond (badBeside (besideOf c) c.row) SettingsRead.Bad (SettingsRead.Are (settingsOfRow (besideOf c) c.row))
+abbrev pub settings_read : CardCall → SettingsRead
+settings_read c = cond (bad_beside (beside_of c) c.row) SettingsRead.Bad (SettingsRead.Are (settings_of_row (beside_of c) c.row))
 
 -- the row's log, of these settings
-abbrev pub ownLog : Limits → CardCall → CardRow → LogRead
-ownLog l c r =
-    cond (badBeside (besideOf c) c.row || badRowLog l r) (LogRead.Refused Refusal.Log)
-    (cond (otherRow l (settingsOfRow (besideOf c) c.row) r) (LogRead.Refused Refusal.Image) (LogRead.Read (rowLog l r).contents))
+abbrev pub own_log : Limits → CardCall → CardRow → LogRead
+own_log l c r =
+    cond (bad_beside (beside_of c) c.row || bad_row_log l r) (LogRead.Refused Refusal.Log)
+    (cond (other_row l (settings_of_row (beside_of c) c.row) r) (LogRead.Refused Refusal.Image) (LogRead.Read (row_log l r).contents))
 
 -- a row at its log's contents, without marks
-abbrev pub unmarkedRow : Log → CardRow
-unmarkedRow g = record { log = logFieldsOf g; image = logFieldsOf g; checks = tallyFieldsOf noMarks; seconds = tallyFieldsOf noMarks }
+abbrev pub unmarked_row : Log → CardRow
+unmarked_row g = record { log = log_fields_of g; image = log_fields_of g; checks = tally_fields_of no_marks; seconds = tally_fields_of no_marks }
 
 -- does the image that a row's numbers make, of which the first are `front`, fit the log? `front` is well formed
-abbrev pub rowFits : Limits → CardRow → Log → Log → Bool
-rowFits l r front g =
-    let i = withTallies front (rowTally r.checks) (rowTally r.seconds) in
-    marksFit r.checks
-    && marksFit r.seconds
-    && tallyOk l false front.settings.engine front.settings.n i.checks
-    && tallyOk l (isB front.settings.engine) front.settings.engine front.settings.n i.seconds
-    && checksAllowed front.settings.engine front.state.second i.checks.marks
+abbrev pub row_fits : Limits → CardRow → Log → Log → Bool
+row_fits l r front g =
+    let i = with_tallies front (row_tally r.checks) (row_tally r.seconds) in
+    marks_fit r.checks
+    && marks_fit r.seconds
+    && tally_ok l false front.settings.engine front.settings.n i.checks
+    && tally_ok l (is_b front.settings.engine) front.settings.engine front.settings.n i.seconds
+    && checks_allowed front.settings.engine front.state.second i.checks.marks
     && fits i g
 
 -- ---- the step of a row
 
 -- what the unit refuses, what it answers else, and both as its method
-unfoldable pub unitConditions : Limits → UnitStep → U.Unit → List Condition
-unitConditions l (Propose v) u = proposeConditions l u v
-unitConditions l (Deliver m) u = deliverConditions l u m
+unfoldable pub unit_conditions : Limits → UnitStep → U.Unit → List Condition
+unit_conditions l (Propose v) u = propose_conditions l u v
+unit_conditions l (Deliver m) u = deliver_conditions l u m
 
-unfoldable pub unitAnswer : UnitStep → U.Unit → Answer
-unitAnswer (Propose v) u = proposed u v
-unitAnswer (Deliver m) u = received u m
+unfoldable pub unit_answer : UnitStep → U.Unit → Answer
+unit_answer (Propose v) u = proposed u v
+unit_answer (Deliver m) u = received u m
 
 unfoldable pub takes : Limits → UnitStep → U.Unit → Answer
 takes l (Propose v) u = propose l u v
 takes l (Deliver m) u = deliver l u m
 
 -- what refuses, once the row is known: 2, 3, and then the unit's own conditions
-unfoldable pub stepConditions : Limits → Act → CardCall → CardRow → List Condition
-stepConditions l WrongLength c r = condition Refusal.Length true ∷ []
-stepConditions l Malformed c r = condition Refusal.Message true ∷ []
-stepConditions l Start c r = condition Refusal.Log (badBeside (besideOf c) c.row) ∷ []
-stepConditions l KeyOn c r =
-    condition Refusal.Log (badBeside (besideOf c) c.row || badRowLog l r)
-    ∷ condition Refusal.Image (otherRow l (settingsOfRow (besideOf c) c.row) r)
+unfoldable pub step_conditions : Limits → Act → CardCall → CardRow → List Condition
+step_conditions l WrongLength c r = condition Refusal.Length true ∷ []
+step_conditions l Malformed c r = condition Refusal.Message true ∷ []
+step_conditions l Start c r = condition Refusal.Log (bad_beside (beside_of c) c.row) ∷ []
+step_conditions l KeyOn c r =
+    condition Refusal.Log (bad_beside (beside_of c) c.row || bad_row_log l r)
+    ∷ condition Refusal.Image (other_row l (settings_of_row (beside_of c) c.row) r)
     ∷ []
-stepConditions l (Step s) c r =
-    condition Refusal.Log (badBeside (besideOf c) c.row || badRowLog l r)
-    ∷ condition Refusal.Image (otherRow l (settingsOfRow (besideOf c) c.row) r || badRowImage l r)
-    ∷ unitConditions l s (rowUnit l r)
+step_conditions l (Step s) c r =
+    condition Refusal.Log (bad_beside (beside_of c) c.row || bad_row_log l r)
+    ∷ condition Refusal.Image (other_row l (settings_of_row (beside_of c) c.row) r || bad_row_image l r)
+    ∷ unit_conditions l s (row_unit l r)
 
 -- and else the unit's own step
-unfoldable pub stepAnswer : Limits → Act → CardCall → CardRow → Answer
-stepAnswer l WrongLength c r = quiet (rowUnit l r)
-stepAnswer l Malformed c r = quiet (rowUnit l r)
-stepAnswer l Start c r = quiet (fresh (settingsOfRow (besideOf c) c.row))
-stepAnswer l KeyOn c r = quiet (recovered (downUnit (rowLog l r).contents))
-stepAnswer l (Step s) c r = unitAnswer s (rowUnit l r)
+unfoldable pub step_answer : Limits → Act → CardCall → CardRow → Answer
+step_answer l WrongLength c r = quiet (row_unit l r)
+step_answer l Malformed c r = quiet (row_unit l r)
+step_answer l Start c r = quiet (fresh (settings_of_row (beside_of c) c.row))
+step_answer l KeyOn c r = quiet (recovered (down_unit (row_log l r).contents))
+step_answer l (Step s) c r = unit_answer s (row_unit l r)
 
 -- a refusal: an empty message and no decision
 abbrev pub tells : Refusal → Told
-tells k = record { refusal = k; message = emptyMessage; decision = Blank }
+tells k = record { refusal = k; message = empty_message; decision = Blank }
 
 abbrev pub told : Answer → Told
 told a = record { refusal = a.refusal; message = a.message; decision = a.decision }
 
-abbrev pub rowAnswer : CardRow → Told → RowAnswer
-rowAnswer r t = record { row = r; told = t }
+abbrev pub row_answer : CardRow → Told → RowAnswer
+row_answer r t = record { row = r; told = t }
 
 -- an accepted answer changes the row, a refusal does not
-abbrev pub rowAnswered : CardRow → Answer → RowAnswer
-rowAnswered r a = cond (eqb (numberOf a.refusal) 0) (rowAnswer (rowOf a.unit) (told a)) (rowAnswer r (tells a.refusal))
+abbrev pub row_answered : CardRow → Answer → RowAnswer
+row_answered r a = cond (eqb (number_of a.refusal) 0) (row_answer (row_of a.unit) (told a)) (row_answer r (tells a.refusal))
 
 -- the first condition that holds refuses; where none does, the answer
-unfoldable pub unlessRow : List Condition → CardRow → Answer → RowAnswer
-unlessRow conditions r a =
-    cond (eqb (numberOf (firstOf conditions)) 0) (rowAnswer (rowOf a.unit) (told a)) (rowAnswer r (tells (firstOf conditions)))
+unfoldable pub unless_row : List Condition → CardRow → Answer → RowAnswer
+unless_row conditions r a =
+    cond (eqb (number_of (first_refusal conditions)) 0) (row_answer (row_of a.unit) (told a)) (row_answer r (tells (first_refusal conditions)))
 
-abbrev pub actOf : Limits → Act → CardCall → CardRow → RowAnswer
-actOf l act c r = unlessRow (stepConditions l act c r) r (stepAnswer l act c r)
+abbrev pub act_of : Limits → Act → CardCall → CardRow → RowAnswer
+act_of l act c r = unless_row (step_conditions l act c r) r (step_answer l act c r)
 
 -- a step of a row whose log is read: 3, and else the unit's method
-abbrev pub withLog : Limits → UnitStep → Log → CardRow → RowAnswer
-withLog l s g r =
-    cond (eqb (rowImage l r).number 0 && fits (rowImage l r).contents g) (rowAnswered r (takes l s (upUnit g (rowImage l r).contents)))
-    (rowAnswer r (tells Refusal.Image))
+abbrev pub with_log : Limits → UnitStep → Log → CardRow → RowAnswer
+with_log l s g r =
+    cond (eqb (row_image l r).number 0 && fits (row_image l r).contents g) (row_answered r (takes l s (up_unit g (row_image l r).contents)))
+    (row_answer r (tells Refusal.Image))
 
-unfoldable pub stepOf : Limits → CardCall → CardRow → RowAnswer
-stepOf l c r = actOf l c.act c r
+unfoldable pub step_of : Limits → CardCall → CardRow → RowAnswer
+step_of l c r = act_of l c.act c r
 
 -- ---- which row
 
 -- 1, of a message or an output buffer
-abbrev pub isShort : Act → Bool
-isShort WrongLength = true
-isShort Malformed = false
-isShort Start = false
-isShort KeyOn = false
-isShort (Step s) = false
+abbrev pub is_short : Act → Bool
+is_short WrongLength = true
+is_short Malformed = false
+is_short Start = false
+is_short KeyOn = false
+is_short (Step s) = false
 
 -- 4
-abbrev pub isMalformed : Act → Bool
-isMalformed WrongLength = false
-isMalformed Malformed = true
-isMalformed Start = false
-isMalformed KeyOn = false
-isMalformed (Step s) = false
+abbrev pub is_malformed : Act → Bool
+is_malformed WrongLength = false
+is_malformed Malformed = true
+is_malformed Start = false
+is_malformed KeyOn = false
+is_malformed (Step s) = false
 
 -- what refuses before any row is read: 1, 4, 12
-unfoldable pub frontConditions : CardCall → ℕ → List Condition
-frontConditions c count =
-    condition Refusal.Length (wrongCount count || isShort c.act)
-    ∷ condition Refusal.Message (isMalformed c.act)
-    ∷ condition Refusal.Row (namesNoRow count c.row)
+unfoldable pub front_conditions : CardCall → ℕ → List Condition
+front_conditions c count =
+    condition Refusal.Length (wrong_count count || is_short c.act)
+    ∷ condition Refusal.Message (is_malformed c.act)
+    ∷ condition Refusal.Row (names_no_row count c.row)
     ∷ []
 
 unfoldable pub front : CardCall → ℕ → Refusal
-front c count = firstOf (frontConditions c count)
+front c count = first_refusal (front_conditions c count)
 
 -- where the row stands, or past the end where there is none
-unfoldable pub placeOf : CardCall → ℕ → ℕ
-placeOf c count = cond (eqb (numberOf (front c count)) 0) (c.row - 1) count
+unfoldable pub place_of : CardCall → ℕ → ℕ
+place_of c count = cond (eqb (number_of (front c count)) 0) (c.row - 1) count
 
 -- what the caller is told, and the rows afterwards
-unfoldable pub cardTold : Limits → CardCall → List CardRow → Told
-cardTold l c rows =
-    cond (leb (length rows) (placeOf c (length rows))) (tells (front c (length rows)))
-    (stepOf l c (get_or rows (placeOf c (length rows)) noRow)).told
+unfoldable pub card_told : Limits → CardCall → List CardRow → Told
+card_told l c rows =
+    cond (leb (length rows) (place_of c (length rows))) (tells (front c (length rows)))
+    (step_of l c (get_or rows (place_of c (length rows)) no_row)).told
 
-unfoldable pub cardRows : Limits → CardCall → List CardRow → List CardRow
-cardRows l c rows =
-    cond (leb (length rows) (placeOf c (length rows))) rows
-    (set rows (placeOf c (length rows)) (stepOf l c (get_or rows (placeOf c (length rows)) noRow)).row)
+unfoldable pub card_rows : Limits → CardCall → List CardRow → List CardRow
+card_rows l c rows =
+    cond (leb (length rows) (place_of c (length rows))) rows
+    (set rows (place_of c (length rows)) (step_of l c (get_or rows (place_of c (length rows)) no_row)).row)
 
 -- ---- what the calls ask of a row, from numbers and buffers, and how they store what is told
 
-abbrev pub cardCall : ℕ → ℕ → ℕ → ℕ → Act → CardCall
-cardCall engine n unit k act = record { engine = engine; n = n; unit = unit; row = k; act = act }
+abbrev pub card_call : ℕ → ℕ → ℕ → ℕ → Act → CardCall
+card_call engine n unit k act = record { engine = engine; n = n; unit = unit; row = k; act = act }
 
-unfoldable pub proposeAsks : Limits → ℕ → ℕ → ℕ → ℕ → ℕ → ℕ → CardCall
-proposeAsks l engine n unit k v size =
-    cond (not (eqb size (messageSize l))) (cardCall engine n unit k WrongLength) (cardCall engine n unit k (Step (Propose v)))
+unfoldable pub propose_asks : Limits → ℕ → ℕ → ℕ → ℕ → ℕ → ℕ → CardCall
+propose_asks l engine n unit k v size =
+    cond (not (eqb size (message_size l))) (card_call engine n unit k WrongLength) (card_call engine n unit k (Step (Propose v)))
 
-unfoldable pub deliverAsks : Limits → ℕ → ℕ → ℕ → List ℕ → ℕ → CardCall
-deliverAsks l engine n unit message size =
-    cond (wrongLength message (messageSize l) || not (eqb size (messageSize l))) (cardCall engine n unit 0 WrongLength)
-    (cond (badMessage l message) (cardCall engine n unit 0 Malformed)
-    (cardCall engine n unit (readMessage l message).contents.entry (Step (Deliver (readMessage l message).contents))))
+unfoldable pub deliver_asks : Limits → ℕ → ℕ → ℕ → List ℕ → ℕ → CardCall
+deliver_asks l engine n unit message size =
+    cond (wrong_length message (message_size l) || not (eqb size (message_size l))) (card_call engine n unit 0 WrongLength)
+    (cond (bad_message l message) (card_call engine n unit 0 Malformed)
+    (card_call engine n unit (read_message l message).contents.entry (Step (Deliver (read_message l message).contents))))
 
 -- a message in an output buffer
-unfoldable pub putMessage : Limits → Message → List ℕ → List ℕ
-putMessage l m out = cond (isEmpty m.kind) (cleared l out) (stored (messageFormat l) m out)
+unfoldable pub put_message : Limits → Message → List ℕ → List ℕ
+put_message l m out = cond (is_empty m.kind) (cleared l out) (stored (message_format l) m out)
 
 -- what a call tells, as number and bytes
-abbrev pub toldCard : Limits → List CardRow → List ℕ → Told → CardAnswer
-toldCard l rows out t = cardCalled (numberOf t.refusal) rows (putMessage l t.message out) (codeOf t.decision)
+abbrev pub told_card : Limits → List CardRow → List ℕ → Told → CardAnswer
+told_card l rows out t = card_called (number_of t.refusal) rows (put_message l t.message out) (code_of t.decision)

@@ -3,7 +3,7 @@
 
 ghost use Rattle.std.specs.Prelude.{◌≡◌, ◌^◌, ltb};
 ghost use Rattle.tally.specs.Limits.{today};
-ghost use Rattle.formats.specs.Codes.{letterOf, engineOf, kindLetter, kindOf, codeOf, estimateOf};
+ghost use Rattle.formats.specs.Codes.{letter_of, engine_of, kind_letter, kind_of, code_of, estimate_of};
 
 use contents::Kind;
 use formats::{EngineRead, KindRead};
@@ -11,7 +11,7 @@ use tally::limits::Round;
 use tally::{Engine, Estimate, limits};
 
 pub fn letter_of(e: Engine) -> u8
-    ensures { result ≡ letterOf e }
+    ensures { result ≡ letter_of e }
 {
     match e {
         Engine::B => b'B',
@@ -20,7 +20,7 @@ pub fn letter_of(e: Engine) -> u8
 }
 
 pub fn engine_of(b: u8) -> EngineRead
-    ensures { result ≡ engineOf b }
+    ensures { result ≡ engine_of b }
 {
     match b {
         b'B' => EngineRead::Is(Engine::B),
@@ -30,7 +30,7 @@ pub fn engine_of(b: u8) -> EngineRead
 }
 
 pub fn kind_letter(k: Kind) -> u8
-    ensures { result ≡ kindLetter k }
+    ensures { result ≡ kind_letter k }
 {
     match k {
         Kind::Empty => 0,
@@ -42,7 +42,7 @@ pub fn kind_letter(k: Kind) -> u8
 }
 
 pub fn kind_of(b: u8) -> KindRead
-    ensures { result ≡ kindOf b }
+    ensures { result ≡ kind_of b }
 {
     match b {
         b'F' => KindRead::Is(Kind::First),
@@ -54,7 +54,7 @@ pub fn kind_of(b: u8) -> KindRead
 }
 
 pub fn code_of(e: Estimate) -> u32
-    ensures { result ≡ codeOf e }
+    ensures { result ≡ code_of e }
 {
     match e {
         Estimate::Blank => limits::BLANK,
@@ -65,7 +65,7 @@ pub fn code_of(e: Estimate) -> u32
 
 // Total: a number out of range is a mileage that the range test refuses.
 pub fn estimate_of(x: u32) -> Estimate
-    ensures { result ≡ estimateOf x }
+    ensures { result ≡ estimate_of x }
 {
     match x {
         limits::BLANK => Estimate::Blank,
@@ -76,7 +76,7 @@ pub fn estimate_of(x: u32) -> Estimate
 
 // Does it fit a round's bytes?
 pub fn round_narrow(x: u32) -> bool
-    ensures { result ≡ ltb x (256 ^ today.roundWidth) }
+    ensures { result ≡ ltb x (256 ^ today.round_width) }
 {
     x < 65536
 }

@@ -5,12 +5,12 @@ use mathlib.Core.Logic.{◌⊎◌, inl, inr}
 use lib.Dec.{eqb}
 use borrow.Author.Tests.{eqb-true, eq-eqb, not-false}
 use Rattle.tally.specs.Limits.{everyone}
-use Rattle.contents.specs.Estimates.{sameEngine}
+use Rattle.contents.specs.Estimates.{same_engine}
 use Rattle.contents.specs.declared.Message.{Message}
 use Rattle.contents.specs.declared.Settings.{Settings}
-use Rattle.contents.proofs.Same.{same-engine, engine-same}
-use Rattle.contents.proofs.Tests.{both-true}
-use Rattle.consensus.specs.Methods.{forOther}
+use Rattle.contents.proofs.Same.{same_engine_lem, engine_same}
+use Rattle.contents.proofs.Tests.{both_true}
+use Rattle.consensus.specs.Methods.{for_other}
 
 -- the message is for the unit with these settings
 pub record Mine (s : Settings) (m : Message) : Type 0 where
@@ -23,14 +23,14 @@ either : (a b : Bool) → (a || b) ≡ true → (a ≡ true) ⊎ (b ≡ true)
 either true b h = inl refl
 either false b h = inr h
 
-pub mine-passes : (s : Settings) (m : Message) → Mine s m → forOther s m ≡ false
-unfolding forOther
-mine-passes s m h =
+pub mine_passes : (s : Settings) (m : Message) → Mine s m → for_other s m ≡ false
+unfolding for_other
+mine_passes s m h =
     rw (
       h.engine,
       h.n,
       h.entry,
-      engine-same s.engine,
+      engine_same s.engine,
       eq-eqb s.n s.n refl,
       eq-eqb s.entry s.entry refl,
     )
@@ -40,14 +40,14 @@ mine-passes s m h =
     to (inl e) = rw (eq-eqb m.receiver everyone e)
     to (inr e) = rw (eq-eqb m.receiver s.unit e, or-true (eqb m.receiver everyone))
 
-pub passes-mine : (s : Settings) (m : Message) → forOther s m ≡ false → Mine s m
-unfolding forOther
-passes-mine s m h =
-    let a = both-true (sameEngine s.engine m.engine && eqb s.n m.n && eqb s.entry m.entry) _ (not-false _ h) in
-    let b = both-true (sameEngine s.engine m.engine && eqb s.n m.n) _ a.0 in
-    let c = both-true (sameEngine s.engine m.engine) _ b.0 in
+pub passes_mine : (s : Settings) (m : Message) → for_other s m ≡ false → Mine s m
+unfolding for_other
+passes_mine s m h =
+    let a = both_true (same_engine s.engine m.engine && eqb s.n m.n && eqb s.entry m.entry) _ (not-false _ h) in
+    let b = both_true (same_engine s.engine m.engine && eqb s.n m.n) _ a.0 in
+    let c = both_true (same_engine s.engine m.engine) _ b.0 in
     record {
-      engine = sym (same-engine _ _ c.0);
+      engine = sym (same_engine_lem _ _ c.0);
       n = sym (eqb-true s.n m.n c.1);
       entry = sym (eqb-true s.entry m.entry b.1);
       receiver = to (either _ _ a.1);

@@ -8,24 +8,25 @@ use lib.Count.{ones}
 use borrow.Author.Tests.{lt-ltb, le-ltb, le-leb, lt-leb}
 use Rattle.tally.specs.Gathered.{common, lowest, majority}
 use Rattle.tally.specs.Limits.{Limits, everyone}
-use Rattle.tally.specs.Quorum.{quorumOf}
-use Rattle.tally.specs.Tally.{isMarked, mark, noMarks, gathered}
+use Rattle.tally.specs.Quorum.{quorum_of}
+use Rattle.tally.specs.Tally.{is_marked, mark, no_marks, gathered}
 use Rattle.tally.specs.declared.Engine.TheVariants.{B, R}
 use Rattle.tally.specs.declared.Estimate.{Estimate}
 use Rattle.tally.specs.declared.Estimate.TheVariants.{Blank, Split, Mileage}
 use Rattle.tally.specs.declared.Refusal.{Refusal}
 use Rattle.tally.specs.declared.Tally.{Tally}
-use Rattle.contents.specs.Estimates.{isBlank}
+use Rattle.contents.specs.Estimates.{is_blank}
 use Rattle.contents.specs.declared.Kind.{Kind}
 use Rattle.contents.specs.declared.Kind.TheVariants.{Empty, First, Check, Second, Skip}
 use Rattle.contents.specs.declared.Message.{Message}
 use Rattle.contents.specs.declared.Settings.{Settings}
 use Rattle.contents.specs.declared.State.{State}
-use Rattle.consensus.specs.Methods.{refuses, unless, propose, proposeConditions, deliver, deliverConditions, keyOff, keyOn}
-use Rattle.consensus.specs.Conditions.{Condition, firstOf, NoneHolds}
-use Rattle.consensus.specs.Step.{says, logWrite, atRound, sendFirst, proposed, takeFirst, onFirst, isFull, takeSecond, countCheck, checksWith, onCheck}
-use Rattle.consensus.specs.Step.{decided, nextProposal, close, countSecond, secondsWith, onSecond, onKind, skip, caughtUp, received, fresh, recovered}
-use Rattle.consensus.specs.Units.{downUnit, atLog}
+use Rattle.consensus.specs.Methods.{refuses, unless, propose, propose_conditions, deliver, deliver_conditions, key_off, key_on}
+use Rattle.consensus.specs.Conditions.{Condition, first_refusal, NoneHolds}
+use Rattle.consensus.specs.Step.{says, log_write, at_round, send_first, proposed, take_first, on_first, is_full, take_second, count_check, checks_with}
+use Rattle.consensus.specs.Step.{on_check}
+use Rattle.consensus.specs.Step.{decided, next_proposal, close, count_second, seconds_with, on_second, on_kind, skip, caught_up, received, fresh, recovered}
+use Rattle.consensus.specs.Units.{down_unit, at_log}
 use Rattle.consensus.specs.declared.Answer.{Answer}
 use Rattle.consensus.specs.declared.Power.{Power}
 use Rattle.consensus.specs.declared.Power.TheVariants.{Down, Up}
@@ -69,161 +70,161 @@ module _ (p : Power) (s : Settings) (logged now : State) (checks seconds : Tally
   abbrev taken : State
   taken = state now.round now.proposal m.proposal now.second
 
-  pub first-b : s.engine ≡ B → now.first ≡ Blank
-      → onKind First u m ≡ answer (unit p s taken taken checks seconds) (message s Check everyone now.round m.proposal m.proposal) Blank
-  unfolding onKind onFirst takeFirst logWrite says
-  first-b g h = rw (h, g)
+  pub first_b : s.engine ≡ B → now.first ≡ Blank
+      → on_kind First u m ≡ answer (unit p s taken taken checks seconds) (message s Check everyone now.round m.proposal m.proposal) Blank
+  unfolding on_kind on_first take_first log_write says
+  first_b g h = rw (h, g)
 
-  pub first-r : s.engine ≡ R → now.first ≡ Blank
-      → onKind First u m ≡ answer (unit p s taken taken checks seconds) (message s Second everyone now.round m.proposal now.proposal) Blank
-  unfolding onKind onFirst takeFirst logWrite says
-  first-r g h = rw (h, g)
+  pub first_r : s.engine ≡ R → now.first ≡ Blank
+      → on_kind First u m ≡ answer (unit p s taken taken checks seconds) (message s Second everyone now.round m.proposal now.proposal) Blank
+  unfolding on_kind on_first take_first log_write says
+  first_r g h = rw (h, g)
 
-  pub first-there : isBlank now.first ≡ false → onKind First u m ≡ answer u nothing Blank
-  unfolding onKind onFirst
-  first-there h = rw h
+  pub first_there : is_blank now.first ≡ false → on_kind First u m ≡ answer u nothing Blank
+  unfolding on_kind on_first
+  first_there h = rw h
 
   -- CHECK
-  pub check-second-there : isBlank now.second ≡ false → onKind Check u m ≡ answer u nothing Blank
-  unfolding onKind onCheck
-  check-second-there h = rw h
+  pub check_second_there : is_blank now.second ≡ false → on_kind Check u m ≡ answer u nothing Blank
+  unfolding on_kind on_check
+  check_second_there h = rw h
 
-  pub check-marked : isMarked checks.marks m.sender ≡ true → onKind Check u m ≡ answer u nothing Blank
-  unfolding onKind onCheck
-  check-marked h = rw (h, and-false (isBlank now.second))
+  pub check_marked : is_marked checks.marks m.sender ≡ true → on_kind Check u m ≡ answer u nothing Blank
+  unfolding on_kind on_check
+  check_marked h = rw (h, and-false (is_blank now.second))
 
-  module _ (blank : now.second ≡ Blank) (unmarked : isMarked checks.marks m.sender ≡ false) where
+  module _ (blank : now.second ≡ Blank) (unmarked : is_marked checks.marks m.sender ≡ false) where
     abbrev t : Tally
     t = mark checks m.sender m.estimate
 
-    pub check-short : ones t.marks < quorumOf s.engine s.n → onKind Check u m ≡ answer (unit p s logged now t seconds) nothing Blank
-    unfolding onKind onCheck countCheck checksWith isFull
-    check-short h = rw (blank, unmarked, lt-leb (quorumOf s.engine s.n) (ones t.marks) h)
+    pub check_short : ones t.marks < quorum_of s.engine s.n → on_kind Check u m ≡ answer (unit p s logged now t seconds) nothing Blank
+    unfolding on_kind on_check count_check checks_with is_full
+    check_short h = rw (blank, unmarked, lt-leb (quorum_of s.engine s.n) (ones t.marks) h)
 
     abbrev set : State
     set = state now.round now.proposal now.first (common (gathered t))
 
-    pub check-quorum : quorumOf s.engine s.n ≤ ones t.marks
-        → onKind Check u m
-        ≡ answer (unit p s set set noMarks seconds) (message s Second everyone now.round (common (gathered t)) now.proposal) Blank
-    unfolding onKind onCheck countCheck checksWith isFull takeSecond logWrite says
-    check-quorum h = rw (blank, unmarked, le-leb (quorumOf s.engine s.n) (ones t.marks) h)
+    pub check_quorum : quorum_of s.engine s.n ≤ ones t.marks
+        → on_kind Check u m
+        ≡ answer (unit p s set set no_marks seconds) (message s Second everyone now.round (common (gathered t)) now.proposal) Blank
+    unfolding on_kind on_check count_check checks_with is_full take_second log_write says
+    check_quorum h = rw (blank, unmarked, le-leb (quorum_of s.engine s.n) (ones t.marks) h)
 
   -- SECOND
-  pub second-marked : isMarked seconds.marks m.sender ≡ true → onKind Second u m ≡ answer u nothing Blank
-  unfolding onKind onSecond
-  second-marked h = rw h
+  pub second_marked : is_marked seconds.marks m.sender ≡ true → on_kind Second u m ≡ answer u nothing Blank
+  unfolding on_kind on_second
+  second_marked h = rw h
 
-  module _ (unmarked : isMarked seconds.marks m.sender ≡ false) where
+  module _ (unmarked : is_marked seconds.marks m.sender ≡ false) where
     abbrev votes : Tally
     votes = mark seconds m.sender m.estimate
 
-    pub second-short : ones votes.marks < quorumOf s.engine s.n → onKind Second u m ≡ answer (unit p s logged now checks votes) nothing Blank
-    unfolding onKind onSecond countSecond secondsWith isFull
-    second-short h = rw (unmarked, lt-leb (quorumOf s.engine s.n) (ones votes.marks) h)
+    pub second_short : ones votes.marks < quorum_of s.engine s.n → on_kind Second u m ≡ answer (unit p s logged now checks votes) nothing Blank
+    unfolding on_kind on_second count_second seconds_with is_full
+    second_short h = rw (unmarked, lt-leb (quorum_of s.engine s.n) (ones votes.marks) h)
 
     -- the next proposal and the decision are as the laws below say; no log write
-    pub second-closes : quorumOf s.engine s.n ≤ ones votes.marks
-        → onKind Second u m
+    pub second_closes : quorum_of s.engine s.n ≤ ones votes.marks
+        → on_kind Second u m
         ≡ answer
-        (unit p s logged (state (now.round + 1) (nextProposal s.engine s.n votes now.proposal) Blank Blank) noMarks noMarks)
+        (unit p s logged (state (now.round + 1) (next_proposal s.engine s.n votes now.proposal) Blank Blank) no_marks no_marks)
         nothing (decided (common (gathered votes)))
-    unfolding onKind onSecond countSecond secondsWith isFull close atRound
-    second-closes h = rw (unmarked, le-leb (quorumOf s.engine s.n) (ones votes.marks) h)
+    unfolding on_kind on_second count_second seconds_with is_full close at_round
+    second_closes h = rw (unmarked, le-leb (quorum_of s.engine s.n) (ones votes.marks) h)
 
   -- SKIP
-  pub skip-nothing : onKind Skip u m ≡ answer u nothing Blank
-  unfolding onKind
-  skip-nothing = refl
+  pub skip_nothing : on_kind Skip u m ≡ answer u nothing Blank
+  unfolding on_kind
+  skip_nothing = refl
 
   -- ---- a message of any round
 
-  pub received-below : m.round < now.round → received u m ≡ answer u (message s Skip m.sender now.round Blank now.proposal) Blank
+  pub received_below : m.round < now.round → received u m ≡ answer u (message s Skip m.sender now.round Blank now.proposal) Blank
   unfolding received skip says
-  received-below h = rw (lt-ltb m.round now.round h)
+  received_below h = rw (lt-ltb m.round now.round h)
 
-  pub received-at : m.round ≡ now.round → received u m ≡ onKind m.kind u m
-  unfolding received caughtUp
-  received-at h = rw (le-ltb m.round now.round (omega arith), le-ltb now.round m.round (omega arith))
+  pub received_at : m.round ≡ now.round → received u m ≡ on_kind m.kind u m
+  unfolding received caught_up
+  received_at h = rw (le-ltb m.round now.round (omega arith), le-ltb now.round m.round (omega arith))
 
-  pub received-above : now.round < m.round
-      → received u m ≡ onKind m.kind (unit p s logged (state m.round m.proposal Blank Blank) noMarks noMarks) m
-  unfolding received caughtUp atRound
-  received-above h = rw (le-ltb m.round now.round (omega arith), lt-ltb now.round m.round h)
+  pub received_above : now.round < m.round
+      → received u m ≡ on_kind m.kind (unit p s logged (state m.round m.proposal Blank Blank) no_marks no_marks) m
+  unfolding received caught_up at_round
+  received_above h = rw (le-ltb m.round now.round (omega arith), lt-ltb now.round m.round h)
 
   -- ---- a proposal
 
-  pub propose-blank : (v : ℕ) → now.proposal ≡ Blank
+  pub propose_blank : (v : ℕ) → now.proposal ≡ Blank
       → proposed u v
       ≡ answer (unit p s logged (state now.round (Mileage v) now.first now.second) checks seconds)
       (message s First everyone now.round (Mileage v) (Mileage v)) Blank
-  unfolding proposed sendFirst says
-  propose-blank v h = rw h
+  unfolding proposed send_first says
+  propose_blank v h = rw h
 
-  pub propose-there : (v : ℕ) → isBlank now.proposal ≡ false
+  pub propose_there : (v : ℕ) → is_blank now.proposal ≡ false
       → proposed u v ≡ answer u (message s First everyone now.round now.proposal now.proposal) Blank
-  unfolding proposed sendFirst says
-  propose-there v h = rw h
+  unfolding proposed send_first says
+  propose_there v h = rw h
 
 -- ---- what closing a round proposes and decides
 
 module _ (n : ℕ) (t : Tally) (own : Estimate) where
-  pub next-b-seen : (v : ℕ) → lowest (gathered t) ≡ Mileage v → nextProposal B n t own ≡ Mileage v
-  unfolding nextProposal
-  next-b-seen v h = rw h
+  pub next_b_seen : (v : ℕ) → lowest (gathered t) ≡ Mileage v → next_proposal B n t own ≡ Mileage v
+  unfolding next_proposal
+  next_b_seen v h = rw h
 
-  pub next-b-kept : lowest (gathered t) ≡ Blank → nextProposal B n t own ≡ own
-  unfolding nextProposal
-  next-b-kept h = rw h
+  pub next_b_kept : lowest (gathered t) ≡ Blank → next_proposal B n t own ≡ own
+  unfolding next_proposal
+  next_b_kept h = rw h
 
-  pub next-r : nextProposal R n t own ≡ majority (quorumOf R n / 2 + 1) (gathered t)
-  unfolding nextProposal
-  next-r = refl
+  pub next_r : next_proposal R n t own ≡ majority (quorum_of R n / 2 + 1) (gathered t)
+  unfolding next_proposal
+  next_r = refl
 
-pub decided-common : (v : ℕ) → decided (Mileage v) ≡ Mileage v
-decided-common v = refl
+pub decided_common : (v : ℕ) → decided (Mileage v) ≡ Mileage v
+decided_common v = refl
 
-pub decided-split : decided Split ≡ Blank
-decided-split = refl
+pub decided_split : decided Split ≡ Blank
+decided_split = refl
 
 -- ---- the methods
 
-none-first : (cs : List Condition) → NoneHolds cs → firstOf cs ≡ Refusal.None
-unfolding firstOf
-none-first [] h = refl
-none-first (r ∷ rs) h = rw h.0 (none-first rs h.1)
+none_first : (cs : List Condition) → NoneHolds cs → first_refusal cs ≡ Refusal.None
+unfolding first_refusal
+none_first [] h = refl
+none_first (r ∷ rs) h = rw h.0 (none_first rs h.1)
 
 module _ (cs : List Condition) (u : U.Unit) (a : Answer) where
-  unless-accepted : NoneHolds cs → unless cs u a ≡ a
+  unless_accepted : NoneHolds cs → unless cs u a ≡ a
   unfolding unless
-  unless-accepted h = rw (none-first cs h)
+  unless_accepted h = rw (none_first cs h)
 
-pub propose-accepted : (l : Limits) (u : U.Unit) (v : ℕ) → NoneHolds (proposeConditions l u v) → propose l u v ≡ proposed u v
+pub propose_accepted : (l : Limits) (u : U.Unit) (v : ℕ) → NoneHolds (propose_conditions l u v) → propose l u v ≡ proposed u v
 unfolding propose
-propose-accepted l u v h = unless-accepted (proposeConditions l u v) u (proposed u v) h
+propose_accepted l u v h = unless_accepted (propose_conditions l u v) u (proposed u v) h
 
-pub deliver-accepted : (l : Limits) (u : U.Unit) (m : Message) → NoneHolds (deliverConditions l u m) → deliver l u m ≡ received u m
+pub deliver_accepted : (l : Limits) (u : U.Unit) (m : Message) → NoneHolds (deliver_conditions l u m) → deliver l u m ≡ received u m
 unfolding deliver
-deliver-accepted l u m h = unless-accepted (deliverConditions l u m) u (received u m) h
+deliver_accepted l u m h = unless_accepted (deliver_conditions l u m) u (received u m) h
 
 module _ (s : Settings) (logged now : State) (checks seconds : Tally) where
   -- key-off and key-on leave the log's contents and no marks
-  pub key-off-up : keyOff (unit Up s logged now checks seconds) ≡ answer (unit Down s logged logged noMarks noMarks) nothing Blank
-  unfolding keyOff unless firstOf downUnit atLog
-  key-off-up = refl
+  pub key_off_up : key_off (unit Up s logged now checks seconds) ≡ answer (unit Down s logged logged no_marks no_marks) nothing Blank
+  unfolding key_off unless first_refusal down_unit at_log
+  key_off_up = refl
 
-  pub key-on-down : keyOn (unit Down s logged now checks seconds) ≡ answer (unit Up s logged logged noMarks noMarks) nothing Blank
-  unfolding keyOn unless firstOf recovered atLog
-  key-on-down = refl
+  pub key_on_down : key_on (unit Down s logged now checks seconds) ≡ answer (unit Up s logged logged no_marks no_marks) nothing Blank
+  unfolding key_on unless first_refusal recovered at_log
+  key_on_down = refl
 
-  pub key-off-down : keyOff (unit Down s logged now checks seconds) ≡ refuses (unit Down s logged now checks seconds) Refusal.Power
-  unfolding keyOff unless firstOf
-  key-off-down = refl
+  pub key_off_down : key_off (unit Down s logged now checks seconds) ≡ refuses (unit Down s logged now checks seconds) Refusal.Power
+  unfolding key_off unless first_refusal
+  key_off_down = refl
 
-  pub key-on-up : keyOn (unit Up s logged now checks seconds) ≡ refuses (unit Up s logged now checks seconds) Refusal.Power
-  unfolding keyOn unless firstOf
-  key-on-up = refl
+  pub key_on_up : key_on (unit Up s logged now checks seconds) ≡ refuses (unit Up s logged now checks seconds) Refusal.Power
+  unfolding key_on unless first_refusal
+  key_on_up = refl
 
-pub fresh-blank : (s : Settings) → fresh s ≡ unit Up s (state 0 Blank Blank Blank) (state 0 Blank Blank Blank) noMarks noMarks
-unfolding fresh atLog
-fresh-blank s = refl
+pub fresh_blank : (s : Settings) → fresh s ≡ unit Up s (state 0 Blank Blank Blank) (state 0 Blank Blank Blank) no_marks no_marks
+unfolding fresh at_log
+fresh_blank s = refl

@@ -1,6 +1,6 @@
 -- Why a call is refused: conditions in the order of the call, each a row of the table of numbers, and the number that they give. Assumes nothing.
 use Rattle.std.specs.Prelude.{ℕ, ◌≤◌, ◌≡◌, Bool, true, false, cond, List, [], ◌∷◌, ◌⊎◌}
-use Rattle.tally.specs.Refusal.{numberOf}
+use Rattle.tally.specs.Refusal.{number_of}
 use Rattle.tally.specs.declared.Refusal.{Refusal}
 
 -- a refusal of the table, and whether its condition holds of a call
@@ -11,13 +11,13 @@ pub record Condition : Type 0 where
 abbrev pub condition : Refusal → Bool → Condition
 condition k b = record { refusal = k; holds = b }
 
-abbrev pub conditionNumber : Condition → ℕ
-conditionNumber r = numberOf r.refusal
+abbrev pub condition_number : Condition → ℕ
+condition_number r = number_of r.refusal
 
 -- the first condition that holds
-unfoldable pub firstOf : List Condition → Refusal
-firstOf [] = Refusal.None
-firstOf (r ∷ rs) = cond r.holds r.refusal (firstOf rs)
+unfoldable pub first_refusal : List Condition → Refusal
+first_refusal [] = Refusal.None
+first_refusal (r ∷ rs) = cond r.holds r.refusal (first_refusal rs)
 
 -- no condition holds
 abbrev pub NoneHolds : List Condition → Type 0
@@ -27,7 +27,7 @@ NoneHolds (r ∷ rs) = (r.holds ≡ false) × NoneHolds rs
 -- a condition with the number k holds
 abbrev pub NumberHolds : ℕ → List Condition → Type 0
 NumberHolds k [] = ⊥
-NumberHolds k (r ∷ rs) = ((conditionNumber r ≡ k) × (r.holds ≡ true)) ⊎ NumberHolds k rs
+NumberHolds k (r ∷ rs) = ((condition_number r ≡ k) × (r.holds ≡ true)) ⊎ NumberHolds k rs
 
 -- the number k is 0 exactly where no condition holds, and else the lowest number of a condition that does
 pub record LowestNumber (conditions : List Condition) (k : ℕ) : Type 0 where

@@ -7,8 +7,8 @@ use Rattle.consensus.specs.Conditions.{condition}
 use Rattle.consensus.specs.Step.{received}
 use Rattle.consensus.specs.declared.Answer.{Answer}
 use Rattle.consensus.specs.declared.Unit as U
-use Rattle.consensus.specs.Methods.{unless, closesLast}
+use Rattle.consensus.specs.Methods.{unless, closes_last}
 
 -- a delivery to an up unit of a well-formed message that is for it: 7 is the one condition left
-unfoldable pub deliverRead : Limits → U.Unit → Message → Answer
-deliverRead l u m = unless (condition Refusal.LastRound (closesLast l u m) ∷ []) u (received u m)
+unfoldable pub deliver_read : Limits → U.Unit → Message → Answer
+deliver_read l u m = unless (condition Refusal.LastRound (closes_last l u m) ∷ []) u (received u m)

@@ -5,7 +5,7 @@ pub mod methods;
 pub mod step;
 
 ghost use Rattle.std.specs.Prelude.{◌≡◌};
-ghost use Rattle.consensus.specs.Units.{unitLog, atLog, downUnit, upUnit};
+ghost use Rattle.consensus.specs.Units.{unit_log, at_log, down_unit, up_unit};
 
 use contents::{Log, Message, Settings, State};
 use tally::{Estimate, Refusal, Tally};
@@ -40,7 +40,7 @@ pub struct Answer {
 
 impl Unit {
     pub fn log(self) -> Log
-        ensures { result ≡ unitLog self }
+        ensures { result ≡ unit_log self }
     {
         let settings = self.settings;
         let state = self.logged;
@@ -49,7 +49,7 @@ impl Unit {
 
     // The up unit of a log and of what an image that fits it holds.
     pub fn up(log: Log, current: State, checks: Tally, seconds: Tally) -> Unit
-        ensures { result ≡ upUnit log (record { settings = log.settings; state = current; checks = checks; seconds = seconds }) }
+        ensures { result ≡ up_unit log (record { settings = log.settings; state = current; checks = checks; seconds = seconds }) }
     {
         let settings = log.settings;
         let logged = log.state;
@@ -64,9 +64,9 @@ impl Unit {
     }
 
     // A unit at its log's contents, without marks.
-    #[tactic(auto, unfolding(crate::specs::Units::atLog))]
+    #[tactic(auto, unfolding(crate::specs::Units::at_log))]
     pub(crate) fn at_log(power: Power, settings: Settings, logged: State) -> Unit
-        ensures { result ≡ atLog power settings logged }
+        ensures { result ≡ at_log power settings logged }
     {
         Unit {
             power,
@@ -79,9 +79,9 @@ impl Unit {
     }
 
     // The down unit of a log.
-    #[tactic(auto, unfolding(crate::specs::Units::downUnit))]
+    #[tactic(auto, unfolding(crate::specs::Units::down_unit))]
     pub(crate) fn down(log: Log) -> Unit
-        ensures { result ≡ downUnit log }
+        ensures { result ≡ down_unit log }
     {
         let settings = log.settings;
         let state = log.state;

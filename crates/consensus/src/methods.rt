@@ -2,9 +2,9 @@
 ghost use Rattle.std.specs.Prelude.{◌≡◌, true, ◌<◌};
 ghost use Rattle.tally.specs.Limits.{today, senders};
 ghost use Rattle.tally.specs.declared.Estimate.TheVariants.{Blank};
-ghost use Rattle.contents.specs.Messages.{emptyMessage, messageOk};
-ghost use Rattle.consensus.specs.Methods.{isUp, forOther, outOfRange, isSecond, closesLast, refuses, propose, deliver, keyOff, keyOn};
-ghost use Rattle.consensus.specs.InnerMethods.{deliverRead};
+ghost use Rattle.contents.specs.Messages.{empty_message, message_ok};
+ghost use Rattle.consensus.specs.Methods.{is_up, for_other, out_of_range, is_second, closes_last, refuses, propose, deliver, key_off, key_on};
+ghost use Rattle.consensus.specs.InnerMethods.{deliver_read};
 
 use super::step::{NOTHING, Said};
 use super::{Answer, Power, Unit, step};
@@ -13,7 +13,7 @@ use rules::{estimates, messages};
 use tally::{Estimate, Refusal, limits};
 
 pub fn is_up(power: Power) -> bool
-    ensures { result ≡ isUp power }
+    ensures { result ≡ is_up power }
 {
     match power {
         Power::Down => false,
@@ -22,9 +22,9 @@ pub fn is_up(power: Power) -> bool
 }
 
 // Another engine, n, entry or receiver?
-#[tactic(auto, unfolding(crate::specs::Methods::forOther))]
+#[tactic(auto, unfolding(crate::specs::Methods::for_other))]
 fn for_other(s: Settings, m: Message) -> bool
-    ensures { result ≡ forOther s m }
+    ensures { result ≡ for_other s m }
 {
     let engine = s.engine;
     let sent = m.engine;
@@ -34,15 +34,15 @@ fn for_other(s: Settings, m: Message) -> bool
         & ((m.receiver == limits::EVERYONE) | (m.receiver == s.unit)))
 }
 
-#[tactic(auto, unfolding(crate::specs::Methods::outOfRange))]
+#[tactic(auto, unfolding(crate::specs::Methods::out_of_range))]
 fn out_of_range(mileage: u32) -> bool
-    ensures { result ≡ outOfRange today mileage }
+    ensures { result ≡ out_of_range today mileage }
 {
     !estimates::in_range(mileage)
 }
 
 fn is_second(kind: Kind) -> bool
-    ensures { result ≡ isSecond kind }
+    ensures { result ≡ is_second kind }
 {
     match kind {
         Kind::Empty => false,
@@ -62,7 +62,7 @@ struct Taken {
 
 // A refusal sends nothing and decides nothing.
 fn turned_down(refusal: Refusal) -> Taken
-    ensures { (result.refusal ≡ refusal) × ((result.said.message ≡ emptyMessage) × (result.said.decision ≡ Blank)) }
+    ensures { (result.refusal ≡ refusal) × ((result.said.message ≡ empty_message) × (result.said.decision ≡ Blank)) }
 {
     Taken {
         refusal,
@@ -72,10 +72,10 @@ fn turned_down(refusal: Refusal) -> Taken
 
 impl Unit {
     // Would this SECOND close the last round?
-    #[tactic(auto, unfolding(crate::specs::Methods::closesLast, crate::specs::Step::isFull, crate::specs::Step::secondsWith))]
+    #[tactic(auto, unfolding(crate::specs::Methods::closes_last, crate::specs::Step::is_full, crate::specs::Step::seconds_with))]
     fn closes_last(&self, m: Message) -> bool
         requires { m.sender < senders }
-        ensures { result ≡ closesLast today self.now m }
+        ensures { result ≡ closes_last today self.now m }
     {
         let kind = m.kind;
         if is_second(kind)
@@ -114,11 +114,11 @@ impl Unit {
     }
 
     // A delivery of a message found well formed and for this unit, which is up: 7 is the one refusal left.
-    #[tactic(auto, unfolding(crate::specs::InnerMethods::deliverRead, crate::specs::Methods::unless, crate::specs::Conditions::firstOf))]
+    #[tactic(auto, unfolding(crate::specs::InnerMethods::deliver_read, crate::specs::Methods::unless, crate::specs::Conditions::first_refusal))]
     #[inline(always)]
     fn deliver_read(&mut self, m: Message) -> Taken
-        requires { messageOk today m ≡ true }
-        ensures { deliverRead today self.old m
+        requires { message_ok today m ≡ true }
+        ensures { deliver_read today self.old m
             ≡ record { refusal = result.refusal; unit = self.new; message = result.said.message; decision = result.said.decision } }
     {
         if self.closes_last(m) {
@@ -174,9 +174,9 @@ impl Unit {
     }
 
     // The unit goes down, and its image is lost.
-    #[tactic(auto, unfolding(crate::specs::Methods::keyOff, crate::specs::Methods::unless, crate::specs::Conditions::firstOf))]
+    #[tactic(auto, unfolding(crate::specs::Methods::key_off, crate::specs::Methods::unless, crate::specs::Conditions::first_refusal))]
     pub fn key_off(self) -> Answer
-        ensures { result ≡ keyOff self }
+        ensures { result ≡ key_off self }
     {
         let power = self.power;
         if is_up(power) {
@@ -187,9 +187,9 @@ impl Unit {
     }
 
     // The unit comes up at its log.
-    #[tactic(auto, unfolding(crate::specs::Methods::keyOn, crate::specs::Methods::unless, crate::specs::Conditions::firstOf))]
+    #[tactic(auto, unfolding(crate::specs::Methods::key_on, crate::specs::Methods::unless, crate::specs::Conditions::first_refusal))]
     pub fn key_on(self) -> Answer
-        ensures { result ≡ keyOn self }
+        ensures { result ≡ key_on self }
     {
         let power = self.power;
         if is_up(power) {

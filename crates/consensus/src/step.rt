@@ -2,11 +2,11 @@
 ghost use Rattle.std.specs.Prelude.{◌≡◌, ◌<◌, ◌≤◌, leb};
 ghost use Rattle.std.specs.Int.Count.{ones};
 ghost use Rattle.tally.specs.Limits.{today, senders};
-ghost use Rattle.tally.specs.Quorum.{quorumOf};
+ghost use Rattle.tally.specs.Quorum.{quorum_of};
 ghost use Rattle.tally.specs.Tally.{mark};
-ghost use Rattle.consensus.specs.Step.{gives, quiet, says, sends, logWrite, clean, atRound, fresh, recovered};
-ghost use Rattle.consensus.specs.Step.{orIfBlank, sendFirst, proposed, voteKind, voteProposal, takeFirst, onFirst, takeSecond, countCheck, onCheck};
-ghost use Rattle.consensus.specs.Step.{decided, nextProposal, close, countSecond, onSecond, onKind, skip, caughtUp, received};
+ghost use Rattle.consensus.specs.Step.{gives, quiet, says, sends, log_write, clean, at_round, fresh, recovered};
+ghost use Rattle.consensus.specs.Step.{or_if_blank, send_first, proposed, vote_kind, vote_proposal, take_first, on_first, take_second, count_check, on_check};
+ghost use Rattle.consensus.specs.Step.{decided, next_proposal, close, count_second, on_second, on_kind, skip, caught_up, received};
 
 use super::{Answer, Power, Unit};
 use contents::{Kind, Message, Settings, State};
@@ -54,14 +54,14 @@ fn clean(round: Round, proposal: Estimate) -> State
 
 // The first where it is not blank, else the second.
 fn or_if_blank(a: Estimate, b: Estimate) -> Estimate
-    ensures { result ≡ orIfBlank a b }
+    ensures { result ≡ or_if_blank a b }
 {
     if estimates::is_blank(a) { b } else { a }
 }
 
 // A first estimate goes out as CHECK in B and as SECOND in R.
 fn vote_kind(engine: Engine) -> Kind
-    ensures { result ≡ voteKind engine }
+    ensures { result ≡ vote_kind engine }
 {
     match engine {
         Engine::B => Kind::Check,
@@ -70,7 +70,7 @@ fn vote_kind(engine: Engine) -> Kind
 }
 
 fn vote_proposal(engine: Engine, e: Estimate, own: Estimate) -> Estimate
-    ensures { result ≡ voteProposal engine e own }
+    ensures { result ≡ vote_proposal engine e own }
 {
     match engine {
         Engine::B => e,
@@ -90,9 +90,9 @@ fn decided(e: Estimate) -> Estimate
 }
 
 // The proposal of the next round, of the SECONDs gathered.
-#[tactic(auto, unfolding(crate::specs::Step::nextProposal))]
+#[tactic(auto, unfolding(crate::specs::Step::next_proposal))]
 fn next_proposal(engine: Engine, n: u8, t: &Tally, own: Estimate) -> Estimate
-    ensures { result ≡ nextProposal engine n t.now own }
+    ensures { result ≡ next_proposal engine n t.now own }
 {
     match engine {
         Engine::B => or_if_blank(t.lowest(), own),
@@ -102,7 +102,7 @@ fn next_proposal(engine: Engine, n: u8, t: &Tally, own: Estimate) -> Estimate
 
 // Is the quorum there?
 pub(crate) fn is_full(s: Settings, t: &Tally) -> bool
-    ensures { result ≡ leb (quorumOf s.engine s.n) (ones t.now.marks) }
+    ensures { result ≡ leb (quorum_of s.engine s.n) (ones t.now.marks) }
 {
     let engine = s.engine;
     tally::quorum(engine, s.n) <= t.count()
@@ -168,18 +168,18 @@ impl Unit {
 
     // ---- the unit with one thing replaced
     // A log write stores the whole record.
-    #[tactic(auto, unfolding(crate::specs::Step::logWrite))]
+    #[tactic(auto, unfolding(crate::specs::Step::log_write))]
     fn log_write(&mut self, state: State)
-        ensures { self.new ≡ logWrite self.old state }
+        ensures { self.new ≡ log_write self.old state }
     {
         self.logged = state;
         self.current = state;
     }
 
     // The unit takes a round and a proposal, and blanks both estimates and all marks.
-    #[tactic(auto, unfolding(crate::specs::Step::atRound))]
+    #[tactic(auto, unfolding(crate::specs::Step::at_round))]
     fn at_round(&mut self, round: Round, proposal: Estimate)
-        ensures { self.new ≡ atRound self.old round proposal }
+        ensures { self.new ≡ at_round self.old round proposal }
     {
         let current = clean(round, proposal);
         let none = Tally::empty();
@@ -209,9 +209,9 @@ impl Unit {
 
     // ---- to propose
     // FIRST goes out with round and proposal.
-    #[tactic(auto, unfolding(crate::specs::Step::sendFirst))]
+    #[tactic(auto, unfolding(crate::specs::Step::send_first))]
     fn send_first(&mut self, p: Estimate) -> Said
-        ensures { gives self.new result.message result.decision ≡ sendFirst self.old p }
+        ensures { gives self.new result.message result.decision ≡ send_first self.old p }
     {
         self.current.proposal = p;
         self.sends(Kind::First, limits::EVERYONE, p, p)
@@ -229,9 +229,9 @@ impl Unit {
 
     // ---- FIRST
     // The first estimate becomes the proposal received; log; B sends CHECK, R sends SECOND.
-    #[tactic(auto, unfolding(crate::specs::Step::takeFirst))]
+    #[tactic(auto, unfolding(crate::specs::Step::take_first))]
     fn take_first(&mut self, e: Estimate) -> Said
-        ensures { gives self.new result.message result.decision ≡ takeFirst self.old e }
+        ensures { gives self.new result.message result.decision ≡ take_first self.old e }
     {
         let engine = self.settings.engine;
         let current = self.current;
@@ -248,9 +248,9 @@ impl Unit {
         )
     }
 
-    #[tactic(auto, unfolding(crate::specs::Step::onFirst))]
+    #[tactic(auto, unfolding(crate::specs::Step::on_first))]
     fn on_first(&mut self, m: Message) -> Said
-        ensures { gives self.new result.message result.decision ≡ onFirst self.old m }
+        ensures { gives self.new result.message result.decision ≡ on_first self.old m }
     {
         let first = self.current.first;
         let proposal = m.proposal;
@@ -262,9 +262,9 @@ impl Unit {
 
     // ---- CHECK
     // The second estimate is set; log; CHECK marks are cleared; SECOND goes out.
-    #[tactic(auto, unfolding(crate::specs::Step::takeSecond))]
+    #[tactic(auto, unfolding(crate::specs::Step::take_second))]
     fn take_second(&mut self, e: Estimate) -> Said
-        ensures { gives self.new result.message result.decision ≡ takeSecond self.old e }
+        ensures { gives self.new result.message result.decision ≡ take_second self.old e }
     {
         let current = self.current;
         let own = current.proposal;
@@ -276,9 +276,9 @@ impl Unit {
         self.sends(Kind::Second, limits::EVERYONE, e, own)
     }
 
-    #[tactic(auto, unfolding(crate::specs::Step::countCheck, crate::specs::Step::isFull))]
+    #[tactic(auto, unfolding(crate::specs::Step::count_check, crate::specs::Step::is_full))]
     fn count_check(&mut self, t: &Tally) -> Said
-        ensures { gives self.new result.message result.decision ≡ countCheck self.old t.now }
+        ensures { gives self.new result.message result.decision ≡ count_check self.old t.now }
     {
         if is_full(self.settings, t) {
             return self.take_second(t.common());
@@ -287,10 +287,10 @@ impl Unit {
         NOTHING
     }
 
-    #[tactic(auto, unfolding(crate::specs::Step::onCheck, crate::specs::Step::checksWith))]
+    #[tactic(auto, unfolding(crate::specs::Step::on_check, crate::specs::Step::checks_with))]
     fn on_check(&mut self, m: Message) -> Said
         requires { m.sender < senders }
-        ensures { gives self.new result.message result.decision ≡ onCheck self.old m }
+        ensures { gives self.new result.message result.decision ≡ on_check self.old m }
     {
         let second = self.current.second;
         if estimates::is_blank(second) & !tally::is_marked(self.checks.marks, m.sender) {
@@ -304,7 +304,7 @@ impl Unit {
     // A mileage that all gathered hold is decided; the round rises by 1, estimates and marks are blanked.
     #[tactic(auto, unfolding(crate::specs::Step::close))]
     fn close(&mut self, t: &Tally) -> Said
-        requires { self.old.current.round ≤ today.lastRound }
+        requires { self.old.current.round ≤ today.last_round }
         ensures { gives self.new result.message result.decision ≡ close self.old t.now }
     {
         let settings = self.settings;
@@ -318,10 +318,10 @@ impl Unit {
         }
     }
 
-    #[tactic(auto, unfolding(crate::specs::Step::countSecond, crate::specs::Step::isFull))]
+    #[tactic(auto, unfolding(crate::specs::Step::count_second, crate::specs::Step::is_full))]
     fn count_second(&mut self, t: &Tally) -> Said
-        requires { self.old.current.round ≤ today.lastRound }
-        ensures { gives self.new result.message result.decision ≡ countSecond self.old t.now }
+        requires { self.old.current.round ≤ today.last_round }
+        ensures { gives self.new result.message result.decision ≡ count_second self.old t.now }
     {
         if is_full(self.settings, t) {
             return self.close(t);
@@ -330,10 +330,10 @@ impl Unit {
         NOTHING
     }
 
-    #[tactic(auto, unfolding(crate::specs::Step::onSecond, crate::specs::Step::secondsWith))]
+    #[tactic(auto, unfolding(crate::specs::Step::on_second, crate::specs::Step::seconds_with))]
     fn on_second(&mut self, m: Message) -> Said
-        requires { (m.sender < senders) × (self.old.current.round ≤ today.lastRound) }
-        ensures { gives self.new result.message result.decision ≡ onSecond self.old m }
+        requires { (m.sender < senders) × (self.old.current.round ≤ today.last_round) }
+        ensures { gives self.new result.message result.decision ≡ on_second self.old m }
     {
         if tally::is_marked(self.seconds.marks, m.sender) {
             return NOTHING;
@@ -343,10 +343,10 @@ impl Unit {
     }
 
     // ---- any message
-    #[tactic(auto, unfolding(crate::specs::Step::onKind))]
+    #[tactic(auto, unfolding(crate::specs::Step::on_kind))]
     fn on_kind(&mut self, kind: Kind, m: Message) -> Said
-        requires { (m.sender < senders) × (self.old.current.round ≤ today.lastRound) }
-        ensures { gives self.new result.message result.decision ≡ onKind kind self.old m }
+        requires { (m.sender < senders) × (self.old.current.round ≤ today.last_round) }
+        ensures { gives self.new result.message result.decision ≡ on_kind kind self.old m }
     {
         match kind {
             Kind::Empty => NOTHING,
@@ -367,9 +367,9 @@ impl Unit {
     }
 
     // A message above the unit's round raises it.
-    #[tactic(auto, unfolding(crate::specs::Step::caughtUp))]
+    #[tactic(auto, unfolding(crate::specs::Step::caught_up))]
     fn caught_up(&mut self, m: Message)
-        ensures { self.new ≡ caughtUp self.old m }
+        ensures { self.new ≡ caught_up self.old m }
     {
         let proposal = m.proposal;
         if self.current.round < m.round {
@@ -379,7 +379,7 @@ impl Unit {
 
     #[tactic(auto, unfolding(crate::specs::Step::received))]
     pub(crate) fn received(&mut self, m: Message) -> Said
-        requires { (m.sender < senders) × (m.round ≤ today.lastRound) }
+        requires { (m.sender < senders) × (m.round ≤ today.last_round) }
         ensures { gives self.new result.message result.decision ≡ received self.old m }
     {
         let kind = m.kind;

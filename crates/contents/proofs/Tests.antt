@@ -7,19 +7,19 @@ use native.Mathlib.Omega.{arith}
 use Rattle.tally.proofs.Never.{never}
 use Rattle.contents.specs.Images.{every}
 
-pub both-true : (a b : Bool) → (a && b) ≡ true → (a ≡ true) × (b ≡ true)
-both-true true b e = (refl, e)
-both-true false b e = never e
+pub both_true : (a b : Bool) → (a && b) ≡ true → (a ≡ true) × (b ≡ true)
+both_true true b e = (refl, e)
+both_true false b e = never e
 
-pub or-left : (a b : Bool) → (a || b) ≡ true → b ≡ false → a ≡ true
-or-left true b e f = refl
-or-left false b e f = never (sym f ∙ e)
+pub or_left : (a b : Bool) → (a || b) ≡ true → b ≡ false → a ≡ true
+or_left true b e f = refl
+or_left false b e f = never (sym f ∙ e)
 
 -- what every number below k passes
-pub every-at : (k : ℕ) (P : ℕ → Bool) → every k P ≡ true → (s : ℕ) → s < k → P s ≡ true
+pub every_at : (k : ℕ) (P : ℕ → Bool) → every k P ≡ true → (s : ℕ) → s < k → P s ≡ true
 unfolding every
-every-at zero P h s b = absurd (omega arith)
-every-at (suc k) P h s b = go (both-true (every k P) (P k) h) (every-at k P) (dec_lt s k)
+every_at zero P h s b = absurd (omega arith)
+every_at (suc k) P h s b = go (both_true (every k P) (P k) h) (every_at k P) (dec_lt s k)
   where
     go : (every k P ≡ true) × (P k ≡ true) → (every k P ≡ true → (s : ℕ) → s < k → P s ≡ true) → Dec (s < k) → P s ≡ true
     go a ih (yes l) = ih a.0 s l

@@ -3,48 +3,48 @@ use Rattle.std.specs.Prelude.{Bool, true, false, ◌&&◌, eqb, ltb}
 use Rattle.tally.specs.Limits.{Limits, everyone}
 use Rattle.tally.specs.declared.Engine.TheVariants.{B}
 use Rattle.tally.specs.declared.Estimate.TheVariants.{Blank}
-use Rattle.contents.specs.Estimates.{isB, isBlank, mileageOrBlank, mileageOrSplit, sameMileage}
-use Rattle.contents.specs.Logs.{numbersOk, roundOk}
+use Rattle.contents.specs.Estimates.{is_b, is_blank, mileage_or_blank, mileage_or_split, same_mileage}
+use Rattle.contents.specs.Logs.{numbers_ok, round_ok}
 use Rattle.contents.specs.declared.Kind.{Kind}
 use Rattle.contents.specs.declared.Kind.TheVariants.{Empty, First, Check, Second, Skip}
 use Rattle.contents.specs.declared.Message.{Message}
 
 -- an empty message counts as no message
-abbrev pub isEmpty : Kind → Bool
-isEmpty Empty = true
-isEmpty First = false
-isEmpty Check = false
-isEmpty Second = false
-isEmpty Skip = false
+abbrev pub is_empty : Kind → Bool
+is_empty Empty = true
+is_empty First = false
+is_empty Check = false
+is_empty Second = false
+is_empty Skip = false
 
 -- the contents of an empty message
-abbrev pub emptyMessage : Message
-emptyMessage = record { kind = Empty; engine = B; n = 0; sender = 0; receiver = 0; entry = 0; round = 0; estimate = Blank; proposal = Blank }
+abbrev pub empty_message : Message
+empty_message = record { kind = Empty; engine = B; n = 0; sender = 0; receiver = 0; entry = 0; round = 0; estimate = Blank; proposal = Blank }
 
 -- F: receiver is everyone; estimate and proposal are the same mileage
-unfoldable pub firstOk : Limits → Message → Bool
-firstOk l m = eqb m.receiver everyone && sameMileage l m.estimate m.proposal
+unfoldable pub first_ok : Limits → Message → Bool
+first_ok l m = eqb m.receiver everyone && same_mileage l m.estimate m.proposal
 
 -- C: the same, in B only
-unfoldable pub checkOk : Limits → Message → Bool
-checkOk l m = isB m.engine && firstOk l m
+unfoldable pub check_ok : Limits → Message → Bool
+check_ok l m = is_b m.engine && first_ok l m
 
 -- S: receiver is everyone; estimate a mileage or, in B, split; proposal a mileage or blank
-unfoldable pub secondOk : Limits → Message → Bool
-secondOk l m = eqb m.receiver everyone && mileageOrSplit l m.engine m.estimate && mileageOrBlank l m.proposal
+unfoldable pub second_ok : Limits → Message → Bool
+second_ok l m = eqb m.receiver everyone && mileage_or_split l m.engine m.estimate && mileage_or_blank l m.proposal
 
 -- K: receiver is a unit; estimate blank; proposal a mileage or blank
-unfoldable pub skipOk : Limits → Message → Bool
-skipOk l m = ltb m.receiver m.n && isBlank m.estimate && mileageOrBlank l m.proposal
+unfoldable pub skip_ok : Limits → Message → Bool
+skip_ok l m = ltb m.receiver m.n && is_blank m.estimate && mileage_or_blank l m.proposal
 
 -- each kind has its rule, and an empty message is not well formed
-unfoldable pub kindOk : Limits → Kind → Message → Bool
-kindOk l Empty m = false
-kindOk l First m = firstOk l m
-kindOk l Check m = checkOk l m
-kindOk l Second m = secondOk l m
-kindOk l Skip m = skipOk l m
+unfoldable pub kind_ok : Limits → Kind → Message → Bool
+kind_ok l Empty m = false
+kind_ok l First m = first_ok l m
+kind_ok l Check m = check_ok l m
+kind_ok l Second m = second_ok l m
+kind_ok l Skip m = skip_ok l m
 
 -- n, a sender below it, entry and round in their ranges, and the kind's rule
-unfoldable pub messageOk : Limits → Message → Bool
-messageOk l m = numbersOk m.n m.sender m.entry && roundOk l m.round && kindOk l m.kind m
+unfoldable pub message_ok : Limits → Message → Bool
+message_ok l m = numbers_ok m.n m.sender m.entry && round_ok l m.round && kind_ok l m.kind m

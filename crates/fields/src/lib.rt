@@ -4,20 +4,20 @@
 mod numbers;
 
 ghost use Rattle.std.specs.Prelude.{◌≡◌, true, length};
-ghost use Rattle.tally.specs.Limits.{today, messageSize, messageFields};
-ghost use Rattle.tally.specs.Refusal.{numberOf};
+ghost use Rattle.tally.specs.Limits.{today, message_size, message_fields};
+ghost use Rattle.tally.specs.Refusal.{number_of};
 ghost use Rattle.formats.specs.Formats.{wrote};
 ghost use Rattle.formats.specs.Messages.{cleared};
-ghost use Rattle.calls.specs.Fields.{readLogCall, writeLogCall, readMessageCall, writeMessageCall};
-ghost use Rattle.calls.specs.InnerFields.{messageNarrow, writeKnown};
+ghost use Rattle.calls.specs.Fields.{read_log_call, write_log_call, read_message_call, write_message_call};
+ghost use Rattle.calls.specs.InnerFields.{message_narrow, write_known};
 
 use formats::{EngineRead, KindRead, LogRead, MessageRead};
 use tally::{Refusal, limits};
 
 // Reads a log's eight numbers: engine letter, n, unit, entry, round, proposal, first and second estimate.
-#[tactic(auto, unfolding(formats::specs::Logs::readLog, calls::specs::Fields::readLogCall))]
+#[tactic(auto, unfolding(formats::specs::Logs::read_log, calls::specs::Fields::read_log_call))]
 pub fn read_log(log: &[u8], fields: &mut [u32]) -> u32
-    ensures { wrote result fields.new ≡ readLogCall today log.now fields.old }
+    ensures { wrote result fields.new ≡ read_log_call today log.now fields.old }
 {
     if fields.len() != limits::LOG_FIELDS {
         return tally::number(Refusal::Length);
@@ -32,9 +32,9 @@ pub fn read_log(log: &[u8], fields: &mut [u32]) -> u32
 }
 
 // Writes a log of its eight numbers.
-#[tactic(auto, unfolding(formats::specs::Logs::writeLog, calls::specs::Fields::writeLogCall, calls::specs::InnerFields::logNarrow))]
+#[tactic(auto, unfolding(formats::specs::Logs::write_log, calls::specs::Fields::write_log_call, calls::specs::InnerFields::log_narrow))]
 pub fn write_log(fields: &[u32], log: &mut [u8]) -> u32
-    ensures { wrote result log.new ≡ writeLogCall today fields.now log.old }
+    ensures { wrote result log.new ≡ write_log_call today fields.now log.old }
 {
     if fields.len() != limits::LOG_FIELDS {
         return tally::number(Refusal::Length);
@@ -52,9 +52,9 @@ pub fn write_log(fields: &[u32], log: &mut [u8]) -> u32
 }
 
 // Reads a message's nine numbers: kind and engine letter, n, sender, receiver, entry, round, estimate, proposal.
-#[tactic(auto, unfolding(formats::specs::Messages::readMessage, calls::specs::Fields::readMessageCall))]
+#[tactic(auto, unfolding(formats::specs::Messages::read_message, calls::specs::Fields::read_message_call))]
 pub fn read_message(message: &[u8], fields: &mut [u32]) -> u32
-    ensures { wrote result fields.new ≡ readMessageCall today message.now fields.old }
+    ensures { wrote result fields.new ≡ read_message_call today message.now fields.old }
 {
     if fields.len() != limits::MESSAGE_FIELDS {
         return tally::number(Refusal::Length);
@@ -70,18 +70,18 @@ pub fn read_message(message: &[u8], fields: &mut [u32]) -> u32
 
 // A refused message write leaves an empty message in a buffer of its length; another keeps its bytes.
 fn refuse(why: Refusal, message: &mut [u8]) -> u32
-    ensures { wrote result message.new ≡ wrote (numberOf why) (cleared today message.old) }
+    ensures { wrote result message.new ≡ wrote (number_of why) (cleared today message.old) }
 {
     message_codec::clear(message);
     tally::number(why)
 }
 
 // Writes a message whose letters have been looked up.
-#[tactic(auto, unfolding(formats::specs::Messages::writeMessage))]
+#[tactic(auto, unfolding(formats::specs::Messages::write_message))]
 fn write_known(kind: KindRead, engine: EngineRead, fields: &[u32], message: &mut [u8]) -> u32
-    requires fields_len { (length fields.now ≡ messageFields) × (messageNarrow today fields.now ≡ true) }
-    requires message_len { length message.old ≡ messageSize today }
-    ensures { wrote result message.new ≡ writeKnown today kind engine fields.now message.old }
+    requires fields_len { (length fields.now ≡ message_fields) × (message_narrow today fields.now ≡ true) }
+    requires message_len { length message.old ≡ message_size today }
+    ensures { wrote result message.new ≡ write_known today kind engine fields.now message.old }
 {
     match kind {
         KindRead::Is(k) => match engine {
@@ -96,9 +96,9 @@ fn write_known(kind: KindRead, engine: EngineRead, fields: &[u32], message: &mut
 }
 
 // Writes a message of its nine numbers.
-#[tactic(auto, unfolding(calls::specs::Fields::writeMessageCall, calls::specs::InnerFields::messageNarrow))]
+#[tactic(auto, unfolding(calls::specs::Fields::write_message_call, calls::specs::InnerFields::message_narrow))]
 pub fn write_message(fields: &[u32], message: &mut [u8]) -> u32
-    ensures { wrote result message.new ≡ writeMessageCall today fields.now message.old }
+    ensures { wrote result message.new ≡ write_message_call today fields.now message.old }
 {
     if fields.len() != limits::MESSAGE_FIELDS {
         return refuse(Refusal::Length, message);

@@ -1,27 +1,27 @@
 // Contents as plain numbers, one to a field.
 ghost use Rattle.std.specs.Prelude.{◌≡◌, true, length};
-ghost use Rattle.tally.specs.Limits.{today, logFields, messageFields};
-ghost use Rattle.formats.specs.Logs.{logNumbers, logOf};
-ghost use Rattle.formats.specs.Messages.{messageNumbers, messageOf};
-ghost use Rattle.calls.specs.InnerFields.{logNarrow, messageNarrow};
+ghost use Rattle.tally.specs.Limits.{today, log_fields, message_fields};
+ghost use Rattle.formats.specs.Logs.{log_numbers, log_of};
+ghost use Rattle.formats.specs.Messages.{message_numbers, message_of};
+ghost use Rattle.calls.specs.InnerFields.{log_narrow, message_narrow};
 
 use contents::{Kind, Log, Message, Settings, State};
 use tally::Engine;
 use tally::limits::Round;
 
 // Does each number fit its bytes?
-#[tactic(auto, unfolding(calls::specs::InnerFields::logNarrow))]
+#[tactic(auto, unfolding(calls::specs::InnerFields::log_narrow))]
 pub(crate) fn log_narrow(f: &[u32]) -> bool
-    requires { length f.now ≡ logFields }
-    ensures { result ≡ logNarrow today f.now }
+    requires { length f.now ≡ log_fields }
+    ensures { result ≡ log_narrow today f.now }
 {
     (f[0] < 256) & (f[1] < 256) & (f[2] < 256) & (f[3] < 65536) & codes::round_narrow(f[4])
 }
 
-#[tactic(auto, unfolding(calls::specs::InnerFields::logNarrow))]
+#[tactic(auto, unfolding(calls::specs::InnerFields::log_narrow))]
 pub(crate) fn log_of(engine: Engine, f: &[u32]) -> Log
-    requires { (length f.now ≡ logFields) × (logNarrow today f.now ≡ true) }
-    ensures { result ≡ logOf engine f.now }
+    requires { (length f.now ≡ log_fields) × (log_narrow today f.now ≡ true) }
+    ensures { result ≡ log_of engine f.now }
 {
     Log {
         settings: Settings {
@@ -40,8 +40,8 @@ pub(crate) fn log_of(engine: Engine, f: &[u32]) -> Log
 }
 
 pub(crate) fn put_log(log: Log, f: &mut [u32])
-    requires { length f.old ≡ logFields }
-    ensures { f.new ≡ logNumbers log }
+    requires { length f.old ≡ log_fields }
+    ensures { f.new ≡ log_numbers log }
 {
     let settings = log.settings;
     let state = log.state;
@@ -59,10 +59,10 @@ pub(crate) fn put_log(log: Log, f: &mut [u32])
     f[7] = codes::code_of(second);
 }
 
-#[tactic(auto, unfolding(calls::specs::InnerFields::messageNarrow))]
+#[tactic(auto, unfolding(calls::specs::InnerFields::message_narrow))]
 pub(crate) fn message_narrow(f: &[u32]) -> bool
-    requires { length f.now ≡ messageFields }
-    ensures { result ≡ messageNarrow today f.now }
+    requires { length f.now ≡ message_fields }
+    ensures { result ≡ message_narrow today f.now }
 {
     (f[0] < 256)
         & (f[1] < 256)
@@ -73,10 +73,10 @@ pub(crate) fn message_narrow(f: &[u32]) -> bool
         & codes::round_narrow(f[6])
 }
 
-#[tactic(auto, unfolding(calls::specs::InnerFields::messageNarrow))]
+#[tactic(auto, unfolding(calls::specs::InnerFields::message_narrow))]
 pub(crate) fn message_of(kind: Kind, engine: Engine, f: &[u32]) -> Message
-    requires { (length f.now ≡ messageFields) × (messageNarrow today f.now ≡ true) }
-    ensures { result ≡ messageOf kind engine f.now }
+    requires { (length f.now ≡ message_fields) × (message_narrow today f.now ≡ true) }
+    ensures { result ≡ message_of kind engine f.now }
 {
     Message {
         kind,
@@ -92,8 +92,8 @@ pub(crate) fn message_of(kind: Kind, engine: Engine, f: &[u32]) -> Message
 }
 
 pub(crate) fn put_message(m: Message, f: &mut [u32])
-    requires { length f.old ≡ messageFields }
-    ensures { f.new ≡ messageNumbers m }
+    requires { length f.old ≡ message_fields }
+    ensures { f.new ≡ message_numbers m }
 {
     let kind = m.kind;
     let engine = m.engine;

@@ -6,25 +6,25 @@ use Prim.Native.Nat.{ℕ, zero, suc, ◌+◌}
 use lib.Dec.{eqb}
 use lib.ListN.{length, get_or, replicate, length-replicate}
 use borrow.Author.Tests.{eq-eqb, eqb-true}
-use Rattle.tally.specs.Limits.{Limits, messageSize}
-use Rattle.tally.specs.Refusal.{numberOf}
+use Rattle.tally.specs.Limits.{Limits, message_size}
+use Rattle.tally.specs.Refusal.{number_of}
 use Rattle.tally.specs.declared.Refusal.{Refusal}
-use Rattle.contents.specs.Logs.{numbersOk, roundOk}
-use Rattle.contents.specs.Messages.{kindOk, messageOk, emptyMessage}
+use Rattle.contents.specs.Logs.{numbers_ok, round_ok}
+use Rattle.contents.specs.Messages.{kind_ok, message_ok, empty_message}
 use Rattle.contents.specs.declared.Kind.TheVariants.{Empty}
 use Rattle.contents.specs.declared.Message.{Message}
 use Rattle.formats.specs.Formats.{reading, wrote}
-use Rattle.formats.specs.Messages.{messageFormat, emptyBytes, cleared, readMessage, writeMessage}
-use Rattle.formats.specs.Numbers.{numAt}
-use Rattle.formats.proofs.Steps.{read-numbers-in, write-malformed}
+use Rattle.formats.specs.Messages.{message_format, empty_bytes, cleared, read_message, write_message}
+use Rattle.formats.specs.Numbers.{num_at}
+use Rattle.formats.proofs.Steps.{read_numbers_in, write_malformed}
 
 -- a buffer keeps its length when it is cleared
-pub length-cleared : (l : Limits) (bs : List ℕ) → length (cleared l bs) ≡ length bs
+pub length_cleared : (l : Limits) (bs : List ℕ) → length (cleared l bs) ≡ length bs
 unfolding cleared
-length-cleared l bs = go (eqb (length bs) (messageSize l)) refl
+length_cleared l bs = go (eqb (length bs) (message_size l)) refl
   where
-    go : (b : Bool) → eqb (length bs) (messageSize l) ≡ b → length (cond b (emptyBytes l) bs) ≡ length bs
-    go true e = rw (length-replicate {A = ℕ} (messageSize l) 0) (sym (eqb-true _ _ e))
+    go : (b : Bool) → eqb (length bs) (message_size l) ≡ b → length (cond b (empty_bytes l) bs) ≡ length bs
+    go true e = rw (length-replicate {A = ℕ} (message_size l) 0) (sym (eqb-true _ _ e))
     go false e = refl
 
 -- zeros hold the number 0 everywhere
@@ -33,22 +33,22 @@ zeros zero i = refl
 zeros (suc n) zero = refl
 zeros (suc n) (suc i) = zeros n i
 
-num-zeros : (n o k : ℕ) → numAt (replicate n 0) o k ≡ 0
-unfolding numAt
-num-zeros n o zero = refl
-num-zeros n o (suc k) = rw (num-zeros n o k, zeros n (o + k))
+num_zeros : (n o k : ℕ) → num_at (replicate n 0) o k ≡ 0
+unfolding num_at
+num_zeros n o zero = refl
+num_zeros n o (suc k) = rw (num_zeros n o k, zeros n (o + k))
 
 -- an empty message counts as no message, and reading it gives 4
-pub empty-read : (l : Limits) → readMessage l (emptyBytes l) ≡ reading (numberOf Refusal.Message) emptyMessage
-unfolding readMessage
-empty-read l =
-    read-numbers-in (messageFormat l) (emptyBytes l) (length-replicate {A = ℕ} (messageSize l) 0) (num-zeros (messageSize l) _ 1)
-    ∙ rw (num-zeros (messageSize l) _ 1)
+pub empty_read : (l : Limits) → read_message l (empty_bytes l) ≡ reading (number_of Refusal.Message) empty_message
+unfolding read_message
+empty_read l =
+    read_numbers_in (message_format l) (empty_bytes l) (length-replicate {A = ℕ} (message_size l) 0) (num_zeros (message_size l) _ 1)
+    ∙ rw (num_zeros (message_size l) _ 1)
 
 -- writing contents of kind Empty gives 4 too
-pub empty-written : (l : Limits) (m : Message) (bs : List ℕ) → m.kind ≡ Empty → length bs ≡ messageSize l
-    → writeMessage l m bs ≡ wrote (numberOf Refusal.Message) (emptyBytes l)
-unfolding writeMessage messageOk kindOk cleared
-empty-written l m bs k size =
-    let bad : messageOk l m ≡ false = rw k (and-false (numbersOk m.n m.sender m.entry && roundOk l m.round)) in
-    write-malformed (messageFormat l) bs m (cleared l bs) size bad ∙ rw (eq-eqb (length bs) (messageSize l) size)
+pub empty_written : (l : Limits) (m : Message) (bs : List ℕ) → m.kind ≡ Empty → length bs ≡ message_size l
+    → write_message l m bs ≡ wrote (number_of Refusal.Message) (empty_bytes l)
+unfolding write_message message_ok kind_ok cleared
+empty_written l m bs k size =
+    let bad : message_ok l m ≡ false = rw k (and-false (numbers_ok m.n m.sender m.entry && round_ok l m.round)) in
+    write_malformed (message_format l) bs m (cleared l bs) size bad ∙ rw (eq-eqb (length bs) (message_size l) size)

@@ -1,7 +1,7 @@
 -- Reading and writing contents as a list of numbers, one of which is a zero byte. Assumes nothing.
 use Rattle.std.specs.Prelude.{ℕ, suc, Bool, cond, List, ◌∷◌, ◌++◌, eqb, length, get_or, take, drop}
 use Rattle.std.proofs.Math.Option.{Option, none, some}
-use Rattle.tally.specs.Refusal.{numberOf}
+use Rattle.tally.specs.Refusal.{number_of}
 use Rattle.tally.specs.declared.Refusal.TheVariants.{Length}
 use Rattle.formats.specs.Numbers.{unpack, pack}
 
@@ -27,7 +27,7 @@ pub record Format (A : Type 0) : Type 0 where
   pub size : ℕ
   pub widths : List ℕ
   -- the place of the zero byte among the numbers
-  pub zeroAt : ℕ
+  pub zero_at : ℕ
   -- how many numbers contents are, the zero byte left out; these numbers, and contents of them: none where a letter is unknown
   pub fields : ℕ
   pub numbers : A → List ℕ
@@ -39,15 +39,15 @@ pub record Format (A : Type 0) : Type 0 where
   pub nothing : A
 
 -- numbers with a zero at place k, and without it
-abbrev pub withZero : ℕ → List ℕ → List ℕ
-withZero k vs = take k vs ++ (0 ∷ drop k vs)
+abbrev pub with_zero : ℕ → List ℕ → List ℕ
+with_zero k vs = take k vs ++ (0 ∷ drop k vs)
 
 abbrev pub without : ℕ → List ℕ → List ℕ
 without k vs = take k vs ++ drop (suc k) vs
 
 -- the numbers that bytes hold, the zero byte left out
-abbrev pub numbersIn : {A : Type 0} → Format A → List ℕ → List ℕ
-numbersIn f bs = without f.zeroAt (unpack 0 f.widths bs)
+abbrev pub numbers_in : {A : Type 0} → Format A → List ℕ → List ℕ
+numbers_in f bs = without f.zero_at (unpack 0 f.widths bs)
 
 -- contents are taken where they are known and well formed
 abbrev pub checked : {A : Type 0} → Format A → Option A → ReadAnswer A
@@ -55,25 +55,25 @@ checked f none = reading f.malformed f.nothing
 checked f (some a) = cond (f.ok a) (reading 0 a) (reading f.malformed f.nothing)
 
 -- contents from their numbers
-abbrev pub fromNumbers : {A : Type 0} → Format A → List ℕ → ReadAnswer A
-fromNumbers f vs = checked f (f.parse vs)
+abbrev pub from_numbers : {A : Type 0} → Format A → List ℕ → ReadAnswer A
+from_numbers f vs = checked f (f.parse vs)
 
 -- the byte that must be 0
-abbrev pub zeroByte : {A : Type 0} → Format A → List ℕ → ℕ
-zeroByte f bs = get_or (unpack 0 f.widths bs) f.zeroAt 0
+abbrev pub zero_byte : {A : Type 0} → Format A → List ℕ → ℕ
+zero_byte f bs = get_or (unpack 0 f.widths bs) f.zero_at 0
 
 -- reading the bytes bs: 1 where their length is wrong, malformed where the zero byte is not 0
-abbrev pub readBytes : {A : Type 0} → Format A → List ℕ → ReadAnswer A
-readBytes f bs =
+abbrev pub read_bytes : {A : Type 0} → Format A → List ℕ → ReadAnswer A
+read_bytes f bs =
     cond (eqb (length bs) f.size)
-    (cond (eqb (zeroByte f bs) 0) (fromNumbers f (numbersIn f bs)) (reading f.malformed f.nothing))
-    (reading (numberOf Length) f.nothing)
+    (cond (eqb (zero_byte f bs) 0) (from_numbers f (numbers_in f bs)) (reading f.malformed f.nothing))
+    (reading (number_of Length) f.nothing)
 
 -- the bytes of contents
-abbrev pub toBytes : {A : Type 0} → Format A → A → List ℕ
-toBytes f a = pack f.widths (withZero f.zeroAt (f.numbers a))
+abbrev pub to_bytes : {A : Type 0} → Format A → A → List ℕ
+to_bytes f a = pack f.widths (with_zero f.zero_at (f.numbers a))
 
 -- writing a to a buffer that holds bs: refused as reading would, and then `left` stands there
-abbrev pub writeBytes : {A : Type 0} → Format A → A → List ℕ → List ℕ → WriteAnswer
-writeBytes f a left bs =
-    cond (eqb (length bs) f.size) (cond (f.ok a) (wrote 0 (toBytes f a)) (wrote f.malformed left)) (wrote (numberOf Length) left)
+abbrev pub write_bytes : {A : Type 0} → Format A → A → List ℕ → List ℕ → WriteAnswer
+write_bytes f a left bs =
+    cond (eqb (length bs) f.size) (cond (f.ok a) (wrote 0 (to_bytes f a)) (wrote f.malformed left)) (wrote (number_of Length) left)

@@ -1,75 +1,75 @@
 -- The bytes of a log. Assumes nothing.
 use Rattle.std.specs.Prelude.{ℕ, List, [], ◌∷◌, get_or}
 use Rattle.std.proofs.Math.Option.{Option}
-use Rattle.tally.specs.Limits.{Limits, logSize, logFields}
-use Rattle.tally.specs.Refusal.{numberOf}
+use Rattle.tally.specs.Limits.{Limits, log_size, log_fields}
+use Rattle.tally.specs.Refusal.{number_of}
 use Rattle.tally.specs.declared.Engine.{Engine}
 use Rattle.tally.specs.declared.Engine.TheVariants.{B}
 use Rattle.tally.specs.declared.Estimate.TheVariants.{Blank}
 use Rattle.tally.specs.declared.Refusal.{Refusal}
-use Rattle.contents.specs.Logs.{logOk}
+use Rattle.contents.specs.Logs.{log_ok}
 use Rattle.contents.specs.declared.Log.{Log}
-use Rattle.formats.specs.Codes.{letterOf, engineOf, withEngine, codeOf, estimateOf}
-use Rattle.formats.specs.Formats.{ReadAnswer, reading, WriteAnswer, Format, readBytes, writeBytes}
+use Rattle.formats.specs.Codes.{letter_of, engine_of, with_engine, code_of, estimate_of}
+use Rattle.formats.specs.Formats.{ReadAnswer, reading, WriteAnswer, Format, read_bytes, write_bytes}
 use Rattle.formats.specs.declared.LogRead.{LogRead}
 use Rattle.formats.specs.declared.LogRead.TheVariants.{Read, Refused}
 
 -- engine letter, n, unit, zero, entry, round, proposal, first estimate, second estimate
-abbrev pub logWidths : Limits → List ℕ
-logWidths l = 1 ∷ 1 ∷ 1 ∷ 1 ∷ 2 ∷ l.roundWidth ∷ 4 ∷ 4 ∷ 4 ∷ []
+abbrev pub log_widths : Limits → List ℕ
+log_widths l = 1 ∷ 1 ∷ 1 ∷ 1 ∷ 2 ∷ l.round_width ∷ 4 ∷ 4 ∷ 4 ∷ []
 
 -- the zero stands after engine letter, n and unit, in an image too
-abbrev pub logZero : ℕ
-logZero = 3
+abbrev pub log_zero : ℕ
+log_zero = 3
 
-abbrev pub logNumbers : Log → List ℕ
-logNumbers r =
-    letterOf r.settings.engine ∷ r.settings.n ∷ r.settings.unit ∷ r.settings.entry ∷
-    r.state.round ∷ codeOf r.state.proposal ∷ codeOf r.state.first ∷ codeOf r.state.second ∷ []
+abbrev pub log_numbers : Log → List ℕ
+log_numbers r =
+    letter_of r.settings.engine ∷ r.settings.n ∷ r.settings.unit ∷ r.settings.entry ∷
+    r.state.round ∷ code_of r.state.proposal ∷ code_of r.state.first ∷ code_of r.state.second ∷ []
 
-abbrev pub logOf : Engine → List ℕ → Log
-logOf e vs =
+abbrev pub log_of : Engine → List ℕ → Log
+log_of e vs =
     record {
       settings = record { engine = e; n = get_or vs 1 0; unit = get_or vs 2 0; entry = get_or vs 3 0 };
       state =
           record {
             round = get_or vs 4 0;
-            proposal = estimateOf (get_or vs 5 0);
-            first = estimateOf (get_or vs 6 0);
-            second = estimateOf (get_or vs 7 0);
+            proposal = estimate_of (get_or vs 5 0);
+            first = estimate_of (get_or vs 6 0);
+            second = estimate_of (get_or vs 7 0);
           };
     }
 
-abbrev pub parseLog : List ℕ → Option Log
-parseLog vs = withEngine logOf (engineOf (get_or vs 0 0)) vs
+abbrev pub parse_log : List ℕ → Option Log
+parse_log vs = with_engine log_of (engine_of (get_or vs 0 0)) vs
 
 -- stands in the place of a log that is refused
-abbrev pub noLog : Log
-noLog = logOf B (0 ∷ 0 ∷ 0 ∷ 0 ∷ 0 ∷ codeOf Blank ∷ codeOf Blank ∷ codeOf Blank ∷ [])
+abbrev pub no_log : Log
+no_log = log_of B (0 ∷ 0 ∷ 0 ∷ 0 ∷ 0 ∷ code_of Blank ∷ code_of Blank ∷ code_of Blank ∷ [])
 
 -- 2: log malformed
-abbrev pub logFormat : Limits → Format Log
-logFormat l =
+abbrev pub log_format : Limits → Format Log
+log_format l =
     record {
-      size = logSize l;
-      widths = logWidths l;
-      zeroAt = logZero;
-      fields = logFields;
-      numbers = logNumbers;
-      parse = parseLog;
-      ok = logOk l;
-      malformed = numberOf Refusal.Log;
-      nothing = noLog;
+      size = log_size l;
+      widths = log_widths l;
+      zero_at = log_zero;
+      fields = log_fields;
+      numbers = log_numbers;
+      parse = parse_log;
+      ok = log_ok l;
+      malformed = number_of Refusal.Log;
+      nothing = no_log;
     }
 
 -- the code's answer, as number and contents
-abbrev pub logReading : LogRead → ReadAnswer Log
-logReading (Read r) = reading 0 r
-logReading (Refused k) = reading (numberOf k) noLog
+abbrev pub log_reading : LogRead → ReadAnswer Log
+log_reading (Read r) = reading 0 r
+log_reading (Refused k) = reading (number_of k) no_log
 
-unfoldable pub readLog : Limits → List ℕ → ReadAnswer Log
-readLog l bs = readBytes (logFormat l) bs
+unfoldable pub read_log : Limits → List ℕ → ReadAnswer Log
+read_log l bs = read_bytes (log_format l) bs
 
 -- a refused log write leaves every byte
-unfoldable pub writeLog : Limits → Log → List ℕ → WriteAnswer
-writeLog l r bs = writeBytes (logFormat l) r bs bs
+unfoldable pub write_log : Limits → Log → List ℕ → WriteAnswer
+write_log l r bs = write_bytes (log_format l) r bs bs

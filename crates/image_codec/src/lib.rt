@@ -2,16 +2,17 @@
 #![tactic(auto)]
 
 ghost use Rattle.std.specs.Prelude.{◌≡◌, cond, ◌&&◌, map, ◌+◌, ◌*◌, ◌≤◌, length, replicate};
-ghost use Rattle.tally.specs.Limits.{today, imageSize, senders, blankCode};
-ghost use Rattle.tally.specs.Tally.{noMarks};
+ghost use Rattle.tally.specs.Limits.{today, image_size, senders, blank_code};
+ghost use Rattle.tally.specs.Tally.{no_marks};
 ghost use Rattle.tally.specs.declared.Estimate.TheVariants.{Blank};
-ghost use Rattle.contents.specs.Estimates.{isBlank};
-ghost use Rattle.contents.specs.Images.{every, cellOk, cellsOk, tallyOk, imageOk, fits};
-ghost use Rattle.formats.specs.Codes.{codeOf, estimateOf};
-ghost use Rattle.formats.specs.Numbers.{numAt, unpack};
-ghost use Rattle.formats.specs.InnerNumbers.{packInto, total};
-ghost use Rattle.formats.specs.Images.{cellOf, cellCode, cellWidths, tallyWidths, tallyNumbers, withTallies, imageFormat, readImage};
-ghost use Rattle.formats.specs.InnerImages.{tallyAt, checksAt, secondsAt, fitState, heldFrom, asMarked, tallyFrom, stateOver, tallyOver, imageOver, inImage};
+ghost use Rattle.contents.specs.Estimates.{is_blank};
+ghost use Rattle.contents.specs.Images.{every, cell_ok, cells_ok, tally_ok, image_ok, fits};
+ghost use Rattle.formats.specs.Codes.{code_of, estimate_of};
+ghost use Rattle.formats.specs.Numbers.{num_at, unpack};
+ghost use Rattle.formats.specs.InnerNumbers.{pack_into, total};
+ghost use Rattle.formats.specs.Images.{cell_of, cell_code, cell_widths, tally_widths, tally_numbers, with_tallies, image_format, read_image};
+ghost use Rattle.formats.specs.InnerImages.{tally_at, checks_at, seconds_at, fit_state, held_from, as_marked, tally_from, state_over, tally_over, image_over};
+ghost use Rattle.formats.specs.InnerImages.{in_image};
 ghost use Rattle.formats.specs.InnerFormats.{stored};
 
 use contents::{Log, State};
@@ -27,8 +28,8 @@ const AT_SECONDS: usize = AT_CHECKS + AT_CELLS + 4 * limits::SENDERS;
 
 // Sixteen blanks.
 fn put_blanks(out: &mut [u8], at: usize)
-    requires { at + total cellWidths ≤ length out.old }
-    ensures { out.new ≡ packInto out.old at cellWidths (replicate senders blankCode) }
+    requires { at + total cell_widths ≤ length out.old }
+    ensures { out.new ≡ pack_into out.old at cell_widths (replicate senders blank_code) }
 {
     let mut from = at;
     let mut k = 0;
@@ -40,10 +41,10 @@ fn put_blanks(out: &mut [u8], at: usize)
 }
 
 // A tally without marks.
-#[tactic(auto, unfolding(tally::specs::Tally::noMarks))]
+#[tactic(auto, unfolding(tally::specs::Tally::no_marks))]
 fn put_no_marks(out: &mut [u8], at: usize)
-    requires { at + total tallyWidths ≤ length out.old }
-    ensures { out.new ≡ packInto out.old at tallyWidths (tallyNumbers noMarks) }
+    requires { at + total tally_widths ≤ length out.old }
+    ensures { out.new ≡ pack_into out.old at tally_widths (tally_numbers no_marks) }
 {
     big_endian::put16(out, at, 0);
     put_blanks(out, at + AT_CELLS);
@@ -52,7 +53,7 @@ fn put_no_marks(out: &mut [u8], at: usize)
 // Stores the image that a log gives, without marks; a buffer of another length keeps its bytes.
 #[tactic(auto, unfolding(formats::specs::InnerFormats::stored))]
 pub fn store_unmarked(log: Log, out: &mut [u8])
-    ensures { out.new ≡ stored (imageFormat today) (withTallies log noMarks noMarks) out.old }
+    ensures { out.new ≡ stored (image_format today) (with_tallies log no_marks no_marks) out.old }
 {
     if out.len() == limits::IMAGE_SIZE {
         log_codec::put_log(log, out);
@@ -64,7 +65,7 @@ pub fn store_unmarked(log: Log, out: &mut [u8])
 // ---- the test, in place: only marked cells are decoded
 fn is_blank_at(s: &[u8], at: usize) -> bool
     requires { at + 4 ≤ length s.now }
-    ensures { result ≡ isBlank (estimateOf (numAt s.now at 4)) }
+    ensures { result ≡ is_blank (estimate_of (num_at s.now at 4)) }
 {
     big_endian::be32(s, at) == limits::BLANK
 }
@@ -72,8 +73,8 @@ fn is_blank_at(s: &[u8], at: usize) -> bool
 // Are all sixteen cells blank?
 #[tactic(auto, unfolding(contents::specs::Images::every))]
 fn blanks_at(s: &[u8], at: usize) -> bool
-    requires { at + total cellWidths ≤ length s.now }
-    ensures { result ≡ every senders (λ u. isBlank (estimateOf (numAt s.now (at + 4 * u) 4))) }
+    requires { at + total cell_widths ≤ length s.now }
+    ensures { result ≡ every senders (λ u. is_blank (estimate_of (num_at s.now (at + 4 * u) 4))) }
 {
     let mut from = at;
     let mut ok = true;
@@ -86,7 +87,7 @@ fn blanks_at(s: &[u8], at: usize) -> bool
 
 fn cell_ok_at(s: &[u8], at: usize, split: bool, n: u8, sender: u8, marked: bool) -> bool
     requires { at + 4 ≤ length s.now }
-    ensures { result ≡ cellOk today split n sender marked (estimateOf (numAt s.now at 4)) }
+    ensures { result ≡ cell_ok today split n sender marked (estimate_of (num_at s.now at 4)) }
 {
     if marked {
         let e = codes::estimate_of(big_endian::be32(s, at));
@@ -97,10 +98,10 @@ fn cell_ok_at(s: &[u8], at: usize, split: bool, n: u8, sender: u8, marked: bool)
 }
 
 // A tally without marks is tested in one pass.
-#[tactic(auto, unfolding(contents::specs::Images::every, contents::specs::Images::cellsOk))]
+#[tactic(auto, unfolding(contents::specs::Images::every, contents::specs::Images::cells_ok))]
 fn cells_ok_at(s: &[u8], at: usize, split: bool, n: u8) -> bool
-    requires { at + total tallyWidths ≤ length s.now }
-    ensures { result ≡ cellsOk today split n (tallyAt at s.now) }
+    requires { at + total tally_widths ≤ length s.now }
+    ensures { result ≡ cells_ok today split n (tally_at at s.now) }
 {
     let marks = big_endian::be16(s, at);
     if marks == 0 {
@@ -115,21 +116,21 @@ fn cells_ok_at(s: &[u8], at: usize, split: bool, n: u8) -> bool
     ok
 }
 
-#[tactic(auto, unfolding(contents::specs::Images::tallyOk))]
+#[tactic(auto, unfolding(contents::specs::Images::tally_ok))]
 fn tally_ok_at(s: &[u8], at: usize, split: bool, engine: Engine, n: u8) -> bool
-    requires { at + total tallyWidths ≤ length s.now }
-    ensures { result ≡ tallyOk today split engine n (tallyAt at s.now) }
+    requires { at + total tally_widths ≤ length s.now }
+    ensures { result ≡ tally_ok today split engine n (tally_at at s.now) }
 {
     cells_ok_at(s, at, split, n)
         & (u16::count_ones(big_endian::be16(s, at)) < tally::quorum(engine, n))
 }
 
 // Are the tallies, after these first contents, well formed, and does all of it fit the log?
-#[tactic(auto, unfolding(contents::specs::Images::imageOk, contents::specs::Images::fits))]
+#[tactic(auto, unfolding(contents::specs::Images::image_ok, contents::specs::Images::fits))]
 fn fits_at(s: &[u8], front: Log, log: Log) -> bool
-    requires { length s.now ≡ imageSize today }
-    ensures { result ≡ (imageOk today (withTallies front (tallyAt checksAt s.now) (tallyAt secondsAt s.now))
-        && fits (withTallies front (tallyAt checksAt s.now) (tallyAt secondsAt s.now)) log) }
+    requires { length s.now ≡ image_size today }
+    ensures { result ≡ (image_ok today (with_tallies front (tally_at checks_at s.now) (tally_at seconds_at s.now))
+        && fits (with_tallies front (tally_at checks_at s.now) (tally_at seconds_at s.now)) log) }
 {
     let settings = front.settings;
     let state = front.state;
@@ -155,9 +156,9 @@ fn fits_at(s: &[u8], front: Log, log: Log) -> bool
 }
 
 // The state of an image that is well formed and fits the log.
-#[tactic(auto, unfolding(formats::specs::Images::readImage, formats::specs::InnerImages::fitState))]
+#[tactic(auto, unfolding(formats::specs::Images::read_image, formats::specs::InnerImages::fit_state))]
 pub fn state_for(s: &[u8], log: Log) -> StateRead
-    ensures { result ≡ fitState (readImage today s.now) log }
+    ensures { result ≡ fit_state (read_image today s.now) log }
 {
     if s.len() != limits::IMAGE_SIZE {
         return StateRead::Unfit;
@@ -177,7 +178,7 @@ pub fn state_for(s: &[u8], log: Log) -> StateRead
 // ---- the tallies, read and written: an unmarked cell is blank, whatever stands there
 fn held_at(s: &[u8], at: usize, marked: bool) -> Estimate
     requires { at + 4 ≤ length s.now }
-    ensures { result ≡ cond marked (estimateOf (numAt s.now at 4)) Blank }
+    ensures { result ≡ cond marked (estimate_of (num_at s.now at 4)) Blank }
 {
     if marked {
         codes::estimate_of(big_endian::be32(s, at))
@@ -186,10 +187,10 @@ fn held_at(s: &[u8], at: usize, marked: bool) -> Estimate
     }
 }
 
-#[tactic(auto, unfolding(formats::specs::InnerImages::heldFrom))]
+#[tactic(auto, unfolding(formats::specs::InnerImages::held_from))]
 fn cells_at(s: &[u8], at: usize, marks: u16) -> [Cell; limits::SENDERS]
-    requires { at + total cellWidths ≤ length s.now }
-    ensures { result ≡ heldFrom (record { marks = marks; cells = map cellOf (unpack at cellWidths s.now) }) 0 senders }
+    requires { at + total cell_widths ≤ length s.now }
+    ensures { result ≡ held_from (record { marks = marks; cells = map cell_of (unpack at cell_widths s.now) }) 0 senders }
 {
     let mut cells = tally::NO_CELLS;
     let mut from = at;
@@ -203,8 +204,8 @@ fn cells_at(s: &[u8], at: usize, marks: u16) -> [Cell; limits::SENDERS]
 }
 
 fn tally_at(s: &[u8], at: usize) -> Tally
-    requires { at + total tallyWidths ≤ length s.now }
-    ensures { result ≡ asMarked (tallyAt at s.now) }
+    requires { at + total tally_widths ≤ length s.now }
+    ensures { result ≡ as_marked (tally_at at s.now) }
 {
     let marks = big_endian::be16(s, at);
     Tally {
@@ -214,9 +215,9 @@ fn tally_at(s: &[u8], at: usize) -> Tally
 }
 
 // The CHECKs and the SECONDs of an image; bytes of another length have none.
-#[tactic(auto, unfolding(formats::specs::InnerImages::tallyFrom))]
+#[tactic(auto, unfolding(formats::specs::InnerImages::tally_from))]
 pub fn checks_of(s: &[u8]) -> Tally
-    ensures { result ≡ tallyFrom checksAt s.now }
+    ensures { result ≡ tally_from checks_at s.now }
 {
     if s.len() == limits::IMAGE_SIZE {
         tally_at(s, AT_CHECKS)
@@ -225,9 +226,9 @@ pub fn checks_of(s: &[u8]) -> Tally
     }
 }
 
-#[tactic(auto, unfolding(formats::specs::InnerImages::tallyFrom))]
+#[tactic(auto, unfolding(formats::specs::InnerImages::tally_from))]
 pub fn seconds_of(s: &[u8]) -> Tally
-    ensures { result ≡ tallyFrom secondsAt s.now }
+    ensures { result ≡ tally_from seconds_at s.now }
 {
     if s.len() == limits::IMAGE_SIZE {
         tally_at(s, AT_SECONDS)
@@ -237,7 +238,7 @@ pub fn seconds_of(s: &[u8]) -> Tally
 }
 
 fn held_code(marked: bool, e: Estimate) -> u32
-    ensures { result ≡ codeOf (cond marked e Blank) }
+    ensures { result ≡ code_of (cond marked e Blank) }
 {
     if marked {
         codes::code_of(e)
@@ -246,10 +247,10 @@ fn held_code(marked: bool, e: Estimate) -> u32
     }
 }
 
-#[tactic(auto, unfolding(formats::specs::InnerImages::heldFrom))]
+#[tactic(auto, unfolding(formats::specs::InnerImages::held_from))]
 fn put_cells(t: Tally, out: &mut [u8], at: usize)
-    requires { at + total cellWidths ≤ length out.old }
-    ensures { out.new ≡ packInto out.old at cellWidths (map cellCode (heldFrom t 0 senders)) }
+    requires { at + total cell_widths ≤ length out.old }
+    ensures { out.new ≡ pack_into out.old at cell_widths (map cell_code (held_from t 0 senders)) }
 {
     let mut from = at;
     for k in 0..limits::MAX_UNITS {
@@ -262,8 +263,8 @@ fn put_cells(t: Tally, out: &mut [u8], at: usize)
 }
 
 fn put_tally(t: Tally, out: &mut [u8], at: usize)
-    requires { at + total tallyWidths ≤ length out.old }
-    ensures { out.new ≡ packInto out.old at tallyWidths (tallyNumbers (asMarked t)) }
+    requires { at + total tally_widths ≤ length out.old }
+    ensures { out.new ≡ pack_into out.old at tally_widths (tally_numbers (as_marked t)) }
 {
     if t.marks == 0 {
         put_no_marks(out, at);
@@ -275,8 +276,8 @@ fn put_tally(t: Tally, out: &mut [u8], at: usize)
 
 // Writes a tally, unless the round is the same (`same`) and the bytes have its marks already.
 fn put_changed(t: Tally, same: bool, out: &mut [u8], at: usize)
-    requires { at + total tallyWidths ≤ length out.old }
-    ensures { out.new ≡ tallyOver at same t out.old }
+    requires { at + total tally_widths ≤ length out.old }
+    ensures { out.new ≡ tally_over at same t out.old }
 {
     if same & (t.marks == big_endian::be16(out, at)) {
         return;
@@ -285,9 +286,9 @@ fn put_changed(t: Tally, same: bool, out: &mut [u8], at: usize)
 }
 
 // Stores a state in an image; a buffer of another length keeps its bytes.
-#[tactic(auto, unfolding(formats::specs::InnerImages::inImage))]
+#[tactic(auto, unfolding(formats::specs::InnerImages::in_image))]
 pub fn put_state(s: State, out: &mut [u8])
-    ensures { out.new ≡ inImage (stateOver s) out.old }
+    ensures { out.new ≡ in_image (state_over s) out.old }
 {
     if out.len() != limits::IMAGE_SIZE {
         return;
@@ -296,9 +297,9 @@ pub fn put_state(s: State, out: &mut [u8])
 }
 
 // Stores a state in an image, and of the tallies those that it does not have already; a buffer of another length keeps its bytes.
-#[tactic(auto, unfolding(formats::specs::InnerImages::inImage))]
+#[tactic(auto, unfolding(formats::specs::InnerImages::in_image))]
 pub fn put_image(s: State, checks: Tally, seconds: Tally, out: &mut [u8])
-    ensures { out.new ≡ inImage (imageOver s checks seconds) out.old }
+    ensures { out.new ≡ in_image (image_over s checks seconds) out.old }
 {
     if out.len() == limits::IMAGE_SIZE {
         let same = s.round == log_codec::round_at(out);

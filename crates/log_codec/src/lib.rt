@@ -3,13 +3,13 @@
 
 ghost use Rattle.std.specs.Prelude.{◌≡◌, [], ◌∷◌, ◌+◌, ◌≤◌, length};
 ghost use Rattle.std.proofs.Math.Option.{some};
-ghost use Rattle.tally.specs.Limits.{today, logSize};
-ghost use Rattle.tally.specs.Refusal.{numberOf};
-ghost use Rattle.formats.specs.InnerNumbers.{packInto, total};
-ghost use Rattle.formats.specs.Codes.{codeOf};
-ghost use Rattle.formats.specs.Formats.{withZero, wrote, checked};
-ghost use Rattle.formats.specs.InnerLogs.{settingsWidths, stateWidths, stateNumbers, roundAt, logNumbersIn, engineAt};
-ghost use Rattle.formats.specs.Logs.{logWidths, logZero, logOf, logNumbers, logFormat, logReading, readLog, writeLog};
+ghost use Rattle.tally.specs.Limits.{today, log_size};
+ghost use Rattle.tally.specs.Refusal.{number_of};
+ghost use Rattle.formats.specs.InnerNumbers.{pack_into, total};
+ghost use Rattle.formats.specs.Codes.{code_of};
+ghost use Rattle.formats.specs.Formats.{with_zero, wrote, checked};
+ghost use Rattle.formats.specs.InnerLogs.{settings_widths, state_widths, state_numbers, round_at, log_numbers_in, engine_at};
+ghost use Rattle.formats.specs.Logs.{log_widths, log_zero, log_of, log_numbers, log_format, log_reading, read_log, write_log};
 ghost use Rattle.formats.specs.InnerFormats.{stored};
 
 use contents::{Log, Settings, State};
@@ -36,8 +36,8 @@ const AT_SECOND: usize = AT_FIRST + 4;
 
 // The engine of a log or an image; unknown also where the zero byte is not 0.
 pub fn engine_at(s: &[u8]) -> EngineRead
-    requires { logSize today ≤ length s.now }
-    ensures { result ≡ engineAt s.now }
+    requires { log_size today ≤ length s.now }
+    ensures { result ≡ engine_at s.now }
 {
     if big_endian::be8(s, AT_ZERO) != 0 {
         return EngineRead::Unknown;
@@ -47,8 +47,8 @@ pub fn engine_at(s: &[u8]) -> EngineRead
 
 // The contents that the bytes hold, at an engine.
 pub fn log_at(engine: Engine, s: &[u8]) -> Log
-    requires { logSize today ≤ length s.now }
-    ensures { result ≡ logOf engine (logNumbersIn today s.now) }
+    requires { log_size today ≤ length s.now }
+    ensures { result ≡ log_of engine (log_numbers_in today s.now) }
 {
     Log {
         settings: Settings {
@@ -67,7 +67,7 @@ pub fn log_at(engine: Engine, s: &[u8]) -> Log
 }
 
 fn checked_log(log: Log) -> LogRead
-    ensures { logReading result ≡ checked (logFormat today) (some log) }
+    ensures { log_reading result ≡ checked (log_format today) (some log) }
 {
     if rules::logs::well_formed(log) {
         LogRead::Read(log)
@@ -77,9 +77,9 @@ fn checked_log(log: Log) -> LogRead
 }
 
 // Refuses a wrong length with 1, and malformed contents with 2.
-#[tactic(auto, unfolding(formats::specs::Logs::readLog))]
+#[tactic(auto, unfolding(formats::specs::Logs::read_log))]
 pub fn read_log(s: &[u8]) -> LogRead
-    ensures { logReading result ≡ readLog today s.now }
+    ensures { log_reading result ≡ read_log today s.now }
 {
     if s.len() != limits::LOG_SIZE {
         return LogRead::Refused(Refusal::Length);
@@ -93,7 +93,7 @@ pub fn read_log(s: &[u8]) -> LogRead
 // Three estimates, one after the other; the places add up as the widths do.
 fn put_three(out: &mut [u8], at: usize, a: Estimate, b: Estimate, c: Estimate)
     requires { at + 12 ≤ length out.old }
-    ensures { out.new ≡ packInto out.old at (4 ∷ 4 ∷ 4 ∷ []) (codeOf a ∷ codeOf b ∷ codeOf c ∷ []) }
+    ensures { out.new ≡ pack_into out.old at (4 ∷ 4 ∷ 4 ∷ []) (code_of a ∷ code_of b ∷ code_of c ∷ []) }
 {
     big_endian::put32(out, at, codes::code_of(a));
     big_endian::put32(out, at + 4, codes::code_of(b));
@@ -102,16 +102,16 @@ fn put_three(out: &mut [u8], at: usize, a: Estimate, b: Estimate, c: Estimate)
 
 // The round of a log or an image.
 pub fn round_at(s: &[u8]) -> Round
-    requires { logSize today ≤ length s.now }
-    ensures { result ≡ roundAt s.now }
+    requires { log_size today ≤ length s.now }
+    ensures { result ≡ round_at s.now }
 {
     big_endian::be_round(s, AT_ROUND)
 }
 
 // The state of a log or an image.
 pub fn put_state_at(s: State, out: &mut [u8])
-    requires { logSize today ≤ length out.old }
-    ensures { out.new ≡ packInto out.old (total settingsWidths) (stateWidths today) (stateNumbers s) }
+    requires { log_size today ≤ length out.old }
+    ensures { out.new ≡ pack_into out.old (total settings_widths) (state_widths today) (state_numbers s) }
 {
     let proposal = s.proposal;
     let first = s.first;
@@ -121,8 +121,8 @@ pub fn put_state_at(s: State, out: &mut [u8])
 }
 
 pub fn put_log(log: Log, out: &mut [u8])
-    requires { logSize today ≤ length out.old }
-    ensures { out.new ≡ packInto out.old 0 (logWidths today) (withZero logZero (logNumbers log)) }
+    requires { log_size today ≤ length out.old }
+    ensures { out.new ≡ pack_into out.old 0 (log_widths today) (with_zero log_zero (log_numbers log)) }
 {
     let settings = log.settings;
     let state = log.state;
@@ -145,7 +145,7 @@ pub fn put_log(log: Log, out: &mut [u8])
 // Stores a log that is known to be well formed, with no test of it; a buffer of another length keeps its bytes.
 #[tactic(auto, unfolding(formats::specs::InnerFormats::stored))]
 pub fn store_log(log: Log, out: &mut [u8])
-    ensures { out.new ≡ stored (logFormat today) log out.old }
+    ensures { out.new ≡ stored (log_format today) log out.old }
 {
     if out.len() == limits::LOG_SIZE {
         put_log(log, out);
@@ -153,9 +153,9 @@ pub fn store_log(log: Log, out: &mut [u8])
 }
 
 // Refuses as reading would, and then leaves every byte.
-#[tactic(auto, unfolding(formats::specs::Logs::writeLog))]
+#[tactic(auto, unfolding(formats::specs::Logs::write_log))]
 pub fn write_log(log: Log, out: &mut [u8]) -> Refusal
-    ensures { wrote (numberOf result) out.new ≡ writeLog today log out.old }
+    ensures { wrote (number_of result) out.new ≡ write_log today log out.old }
 {
     if out.len() != limits::LOG_SIZE {
         return Refusal::Length;

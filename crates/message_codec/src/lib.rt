@@ -3,13 +3,13 @@
 
 ghost use Rattle.std.specs.Prelude.{◌≡◌, length};
 ghost use Rattle.std.proofs.Math.Option.{some};
-ghost use Rattle.tally.specs.Limits.{today, messageSize};
-ghost use Rattle.tally.specs.Refusal.{numberOf};
-ghost use Rattle.formats.specs.InnerNumbers.{packInto};
-ghost use Rattle.formats.specs.Formats.{withZero, wrote, checked};
-ghost use Rattle.formats.specs.Messages.{messageWidths, messageZero, messageOf, messageNumbers, messageFormat, messageReading, lettersRead, cleared};
-ghost use Rattle.formats.specs.Messages.{readMessage, writeMessage};
-ghost use Rattle.formats.specs.InnerMessages.{messageNumbersIn};
+ghost use Rattle.tally.specs.Limits.{today, message_size};
+ghost use Rattle.tally.specs.Refusal.{number_of};
+ghost use Rattle.formats.specs.InnerNumbers.{pack_into};
+ghost use Rattle.formats.specs.Formats.{with_zero, wrote, checked};
+ghost use Rattle.formats.specs.Messages.{message_widths, message_zero, message_of, message_numbers, message_format, message_reading, letters_read, cleared};
+ghost use Rattle.formats.specs.Messages.{read_message, write_message};
+ghost use Rattle.formats.specs.InnerMessages.{message_numbers_in};
 ghost use Rattle.formats.specs.InnerFormats.{stored};
 
 use contents::{Kind, Message};
@@ -35,8 +35,8 @@ const AT_PROPOSAL: usize = AT_ESTIMATE + 4;
 
 // The contents that the bytes hold, at a kind and an engine.
 fn message_at(kind: Kind, engine: Engine, s: &[u8]) -> Message
-    requires { length s.now ≡ messageSize today }
-    ensures { result ≡ messageOf kind engine (messageNumbersIn today s.now) }
+    requires { length s.now ≡ message_size today }
+    ensures { result ≡ message_of kind engine (message_numbers_in today s.now) }
 {
     Message {
         kind,
@@ -52,7 +52,7 @@ fn message_at(kind: Kind, engine: Engine, s: &[u8]) -> Message
 }
 
 fn checked_message(m: Message) -> MessageRead
-    ensures { messageReading result ≡ checked (messageFormat today) (some m) }
+    ensures { message_reading result ≡ checked (message_format today) (some m) }
 {
     if rules::messages::well_formed(m) {
         MessageRead::Read(m)
@@ -62,8 +62,8 @@ fn checked_message(m: Message) -> MessageRead
 }
 
 fn message_from(kind: KindRead, engine: EngineRead, s: &[u8]) -> MessageRead
-    requires { length s.now ≡ messageSize today }
-    ensures { messageReading result ≡ checked (messageFormat today) (lettersRead kind engine (messageNumbersIn today s.now)) }
+    requires { length s.now ≡ message_size today }
+    ensures { message_reading result ≡ checked (message_format today) (letters_read kind engine (message_numbers_in today s.now)) }
 {
     match kind {
         KindRead::Is(k) => match engine {
@@ -75,9 +75,9 @@ fn message_from(kind: KindRead, engine: EngineRead, s: &[u8]) -> MessageRead
 }
 
 // Refuses a wrong length with 1, and malformed contents, the empty message among them, with 4.
-#[tactic(auto, unfolding(formats::specs::Messages::readMessage))]
+#[tactic(auto, unfolding(formats::specs::Messages::read_message))]
 pub fn read_message(s: &[u8]) -> MessageRead
-    ensures { messageReading result ≡ readMessage today s.now }
+    ensures { message_reading result ≡ read_message today s.now }
 {
     if s.len() != limits::MESSAGE_SIZE {
         return MessageRead::Refused(Refusal::Length);
@@ -93,8 +93,8 @@ pub fn read_message(s: &[u8]) -> MessageRead
 }
 
 fn put_message(m: Message, out: &mut [u8])
-    requires { length out.old ≡ messageSize today }
-    ensures { out.new ≡ packInto out.old 0 (messageWidths today) (withZero messageZero (messageNumbers m)) }
+    requires { length out.old ≡ message_size today }
+    ensures { out.new ≡ pack_into out.old 0 (message_widths today) (with_zero message_zero (message_numbers m)) }
 {
     let kind = m.kind;
     let engine = m.engine;
@@ -130,7 +130,7 @@ pub fn clear(out: &mut [u8])
 // Stores a message that is known to be well formed, with no test of it; a buffer of another length keeps its bytes.
 #[tactic(auto, unfolding(formats::specs::InnerFormats::stored))]
 pub fn store_message(m: Message, out: &mut [u8])
-    ensures { out.new ≡ stored (messageFormat today) m out.old }
+    ensures { out.new ≡ stored (message_format today) m out.old }
 {
     if out.len() == limits::MESSAGE_SIZE {
         put_message(m, out);
@@ -138,9 +138,9 @@ pub fn store_message(m: Message, out: &mut [u8])
 }
 
 // Refuses as reading would, and then leaves an empty message in a buffer of its length; another keeps its bytes.
-#[tactic(auto, unfolding(formats::specs::Messages::writeMessage))]
+#[tactic(auto, unfolding(formats::specs::Messages::write_message))]
 pub fn write_message(m: Message, out: &mut [u8]) -> Refusal
-    ensures { wrote (numberOf result) out.new ≡ writeMessage today m out.old }
+    ensures { wrote (number_of result) out.new ≡ write_message today m out.old }
 {
     clear(out);
     if out.len() != limits::MESSAGE_SIZE {

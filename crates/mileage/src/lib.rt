@@ -2,11 +2,11 @@
 #![tactic(auto)]
 
 ghost use Rattle.std.specs.Prelude.{◌≡◌, []};
-ghost use Rattle.tally.specs.Limits.{today, blankCode};
+ghost use Rattle.tally.specs.Limits.{today, blank_code};
 ghost use Rattle.formats.specs.Formats.{wrote};
-ghost use Rattle.calls.specs.Fields.{readLogCall, writeLogCall, readMessageCall, writeMessageCall};
-ghost use Rattle.calls.specs.Calls.{called, startCall, keyOnCall, proposeCall, deliverCall};
-ghost use Rattle.cards.specs.Calls.{cardCalled, beside, cardStartCall, cardKeyOnCall, cardProposeCall, cardDeliverCall};
+ghost use Rattle.calls.specs.Fields.{read_log_call, write_log_call, read_message_call, write_message_call};
+ghost use Rattle.calls.specs.Calls.{called, start_call, key_on_call, propose_call, deliver_call};
+ghost use Rattle.cards.specs.Calls.{card_called, beside, card_start_call, card_key_on_call, card_propose_call, card_deliver_call};
 ghost use Rattle.mileage.specs.Version.{version};
 
 use cards::CardRow;
@@ -25,7 +25,7 @@ pub extern "C" fn mileage_version() -> u32
 // Reads a log's eight numbers: engine letter, n, unit, entry, round, proposal, first and second estimate.
 #[unsafe(no_mangle)]
 pub extern "C" fn mileage_read_log(log: &[u8], fields: &mut [u32]) -> u32
-    ensures { wrote result fields.new ≡ readLogCall today log.now fields.old }
+    ensures { wrote result fields.new ≡ read_log_call today log.now fields.old }
 {
     fields::read_log(log, fields)
 }
@@ -33,7 +33,7 @@ pub extern "C" fn mileage_read_log(log: &[u8], fields: &mut [u32]) -> u32
 // Writes a log of its eight numbers.
 #[unsafe(no_mangle)]
 pub extern "C" fn mileage_write_log(fields: &[u32], log: &mut [u8]) -> u32
-    ensures { wrote result log.new ≡ writeLogCall today fields.now log.old }
+    ensures { wrote result log.new ≡ write_log_call today fields.now log.old }
 {
     fields::write_log(fields, log)
 }
@@ -41,7 +41,7 @@ pub extern "C" fn mileage_write_log(fields: &[u32], log: &mut [u8]) -> u32
 // Reads a message's nine numbers: kind and engine letter, n, sender, receiver, entry, round, estimate, proposal.
 #[unsafe(no_mangle)]
 pub extern "C" fn mileage_read_message(message: &[u8], fields: &mut [u32]) -> u32
-    ensures { wrote result fields.new ≡ readMessageCall today message.now fields.old }
+    ensures { wrote result fields.new ≡ read_message_call today message.now fields.old }
 {
     fields::read_message(message, fields)
 }
@@ -49,7 +49,7 @@ pub extern "C" fn mileage_read_message(message: &[u8], fields: &mut [u32]) -> u3
 // Writes a message of its nine numbers.
 #[unsafe(no_mangle)]
 pub extern "C" fn mileage_write_message(fields: &[u32], message: &mut [u8]) -> u32
-    ensures { wrote result message.new ≡ writeMessageCall today fields.now message.old }
+    ensures { wrote result message.new ≡ write_message_call today fields.now message.old }
 {
     fields::write_message(fields, message)
 }
@@ -64,8 +64,8 @@ pub extern "C" fn mileage_start(
     log: &mut [u8],
     image: &mut [u8],
 ) -> u32
-    ensures { called result log.new image.new [] blankCode
-        ≡ startCall today engine n unit entry log.old image.old }
+    ensures { called result log.new image.new [] blank_code
+        ≡ start_call today engine n unit entry log.old image.old }
 {
     unit_calls::start(engine, n, unit, entry, log, image)
 }
@@ -73,7 +73,7 @@ pub extern "C" fn mileage_start(
 // Key-on: writes the image that the log gives, and does not read what it held.
 #[unsafe(no_mangle)]
 pub extern "C" fn mileage_key_on(log: &[u8], image: &mut [u8]) -> u32
-    ensures { called result log.now image.new [] blankCode ≡ keyOnCall today log.now image.old }
+    ensures { called result log.now image.new [] blank_code ≡ key_on_call today log.now image.old }
 {
     unit_calls::key_on(log, image)
 }
@@ -81,8 +81,8 @@ pub extern "C" fn mileage_key_on(log: &[u8], image: &mut [u8]) -> u32
 // Proposes a mileage: writes the image and a message, and no log.
 #[unsafe(no_mangle)]
 pub extern "C" fn mileage_propose(log: &[u8], image: &mut [u8], mileage: u32, out: &mut [u8]) -> u32
-    ensures { called result log.now image.new out.new blankCode
-        ≡ proposeCall today log.now image.old mileage out.old }
+    ensures { called result log.now image.new out.new blank_code
+        ≡ propose_call today log.now image.old mileage out.old }
 {
     unit_calls::propose(log, image, mileage, out)
 }
@@ -97,7 +97,7 @@ pub extern "C" fn mileage_deliver(
     decision: &mut u32,
 ) -> u32
     ensures { called result log.new image.new out.new decision.new
-        ≡ deliverCall today log.old image.old message.now out.old }
+        ≡ deliver_call today log.old image.old message.now out.old }
 {
     unit_calls::deliver(log, image, message, out, decision)
 }
@@ -111,7 +111,7 @@ pub extern "C" fn mileage_card_start(
     rows: &mut [CardRow],
     row: u32,
 ) -> u32
-    ensures { cardCalled result rows.new [] blankCode ≡ cardStartCall today (beside engine n unit) rows.old row }
+    ensures { card_called result rows.new [] blank_code ≡ card_start_call today (beside engine n unit) rows.old row }
 {
     let c = card_calls::buffers::start_call(engine, n, unit, row);
     card_calls::buffers::number_of(card_calls::on_row(c, rows))
@@ -126,7 +126,7 @@ pub extern "C" fn mileage_card_key_on(
     rows: &mut [CardRow],
     row: u32,
 ) -> u32
-    ensures { cardCalled result rows.new [] blankCode ≡ cardKeyOnCall today (beside engine n unit) rows.old row }
+    ensures { card_called result rows.new [] blank_code ≡ card_key_on_call today (beside engine n unit) rows.old row }
 {
     let c = card_calls::buffers::key_on_call(engine, n, unit, row);
     card_calls::buffers::number_of(card_calls::on_row(c, rows))
@@ -143,8 +143,8 @@ pub extern "C" fn mileage_card_propose(
     mileage: u32,
     out: &mut [u8],
 ) -> u32
-    ensures { cardCalled result rows.new out.new blankCode
-        ≡ cardProposeCall today (beside engine n unit) rows.old row mileage out.old }
+    ensures { card_called result rows.new out.new blank_code
+        ≡ card_propose_call today (beside engine n unit) rows.old row mileage out.old }
 {
     let c = card_calls::buffers::propose_call(engine, n, unit, row, mileage, out.len());
     let t = card_calls::on_row(c, rows);
@@ -162,8 +162,8 @@ pub extern "C" fn mileage_card_deliver(
     out: &mut [u8],
     decision: &mut u32,
 ) -> u32
-    ensures { cardCalled result rows.new out.new decision.new
-        ≡ cardDeliverCall today (beside engine n unit) rows.old message.now out.old }
+    ensures { card_called result rows.new out.new decision.new
+        ≡ card_deliver_call today (beside engine n unit) rows.old message.now out.old }
 {
     let c = card_calls::buffers::deliver_call(engine, n, unit, message, out.len());
     let t = card_calls::on_row(c, rows);

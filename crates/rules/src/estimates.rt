@@ -1,13 +1,13 @@
 // Tests of engines and of single estimates.
 ghost use Rattle.std.specs.Prelude.{◌≡◌};
 ghost use Rattle.tally.specs.Limits.{today};
-ghost use Rattle.contents.specs.Estimates.{inRange, isB, isBlank, isSplit, isMileage, mileageOrBlank, mileageOrSplit, secondEstimateOk};
-ghost use Rattle.contents.specs.Estimates.{sameMileage, sameEngine, sameEstimate};
+ghost use Rattle.contents.specs.Estimates.{in_range, is_b, is_blank, is_split, is_mileage, mileage_or_blank, mileage_or_split, second_estimate_ok};
+ghost use Rattle.contents.specs.Estimates.{same_mileage, same_engine, same_estimate};
 
 use tally::{Engine, Estimate, limits};
 
 pub fn is_b(e: Engine) -> bool
-    ensures { result ≡ isB e }
+    ensures { result ≡ is_b e }
 {
     match e {
         Engine::B => true,
@@ -16,13 +16,13 @@ pub fn is_b(e: Engine) -> bool
 }
 
 pub fn in_range(m: u32) -> bool
-    ensures { result ≡ inRange today m }
+    ensures { result ≡ in_range today m }
 {
     m <= limits::MAX_MILEAGE
 }
 
 pub fn is_blank(e: Estimate) -> bool
-    ensures { result ≡ isBlank e }
+    ensures { result ≡ is_blank e }
 {
     match e {
         Estimate::Blank => true,
@@ -32,7 +32,7 @@ pub fn is_blank(e: Estimate) -> bool
 }
 
 pub fn is_split(e: Estimate) -> bool
-    ensures { result ≡ isSplit e }
+    ensures { result ≡ is_split e }
 {
     match e {
         Estimate::Blank => false,
@@ -42,7 +42,7 @@ pub fn is_split(e: Estimate) -> bool
 }
 
 pub fn is_mileage(e: Estimate) -> bool
-    ensures { result ≡ isMileage today e }
+    ensures { result ≡ is_mileage today e }
 {
     match e {
         Estimate::Blank => false,
@@ -51,31 +51,31 @@ pub fn is_mileage(e: Estimate) -> bool
     }
 }
 
-#[tactic(auto, unfolding(contents::specs::Estimates::mileageOrBlank))]
+#[tactic(auto, unfolding(contents::specs::Estimates::mileage_or_blank))]
 pub fn mileage_or_blank(e: Estimate) -> bool
-    ensures { result ≡ mileageOrBlank today e }
+    ensures { result ≡ mileage_or_blank today e }
 {
     is_mileage(e) | is_blank(e)
 }
 
 // A mileage or, in B, split.
-#[tactic(auto, unfolding(contents::specs::Estimates::mileageOrSplit))]
+#[tactic(auto, unfolding(contents::specs::Estimates::mileage_or_split))]
 pub fn mileage_or_split(engine: Engine, e: Estimate) -> bool
-    ensures { result ≡ mileageOrSplit today engine e }
+    ensures { result ≡ mileage_or_split today engine e }
 {
     is_mileage(e) | (is_b(engine) & is_split(e))
 }
 
 // What a log's second estimate can be.
-#[tactic(auto, unfolding(contents::specs::Estimates::secondEstimateOk))]
+#[tactic(auto, unfolding(contents::specs::Estimates::second_estimate_ok))]
 pub fn second_estimate_ok(engine: Engine, e: Estimate) -> bool
-    ensures { result ≡ secondEstimateOk today engine e }
+    ensures { result ≡ second_estimate_ok today engine e }
 {
     is_blank(e) | (is_b(engine) & (is_mileage(e) | is_split(e)))
 }
 
 pub fn same_engine(a: Engine, b: Engine) -> bool
-    ensures { result ≡ sameEngine a b }
+    ensures { result ≡ same_engine a b }
 {
     match a {
         Engine::B => is_b(b),
@@ -84,7 +84,7 @@ pub fn same_engine(a: Engine, b: Engine) -> bool
 }
 
 pub fn same_estimate(a: Estimate, b: Estimate) -> bool
-    ensures { result ≡ sameEstimate a b }
+    ensures { result ≡ same_estimate a b }
 {
     match a {
         Estimate::Blank => is_blank(b),
@@ -94,9 +94,9 @@ pub fn same_estimate(a: Estimate, b: Estimate) -> bool
 }
 
 // The same mileage twice.
-#[tactic(auto, unfolding(contents::specs::Estimates::sameMileage))]
+#[tactic(auto, unfolding(contents::specs::Estimates::same_mileage))]
 pub fn same_mileage(a: Estimate, b: Estimate) -> bool
-    ensures { result ≡ sameMileage today a b }
+    ensures { result ≡ same_mileage today a b }
 {
     is_mileage(a) & same_estimate(a, b)
 }

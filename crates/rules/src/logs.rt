@@ -1,7 +1,7 @@
 // Well-formed settings, states and logs.
 ghost use Rattle.std.specs.Prelude.{◌≡◌};
 ghost use Rattle.tally.specs.Limits.{today};
-ghost use Rattle.contents.specs.Logs.{numbersOk, roundOk, settingsOk, stateOk, logOk};
+ghost use Rattle.contents.specs.Logs.{numbers_ok, round_ok, settings_ok, state_ok, log_ok};
 
 use super::estimates;
 use contents::{Log, Settings, State};
@@ -10,7 +10,7 @@ use tally::{Engine, limits};
 
 // n, a unit below it, and an entry.
 pub fn numbers_ok(n: u8, unit: u8, entry: u16) -> bool
-    ensures { result ≡ numbersOk n unit entry }
+    ensures { result ≡ numbers_ok n unit entry }
 {
     (limits::MIN_UNITS <= n)
         & (n <= limits::MAX_UNITS)
@@ -20,20 +20,20 @@ pub fn numbers_ok(n: u8, unit: u8, entry: u16) -> bool
 }
 
 pub fn round_ok(round: Round) -> bool
-    ensures { result ≡ roundOk today round }
+    ensures { result ≡ round_ok today round }
 {
     round <= limits::LAST_ROUND
 }
 
 pub fn settings_ok(s: Settings) -> bool
-    ensures { result ≡ settingsOk s }
+    ensures { result ≡ settings_ok s }
 {
     numbers_ok(s.n, s.unit, s.entry)
 }
 
-#[tactic(auto, unfolding(contents::specs::Logs::stateOk))]
+#[tactic(auto, unfolding(contents::specs::Logs::state_ok))]
 pub fn state_ok(engine: Engine, s: State) -> bool
-    ensures { result ≡ stateOk today engine s }
+    ensures { result ≡ state_ok today engine s }
 {
     let proposal = s.proposal;
     let first = s.first;
@@ -44,9 +44,9 @@ pub fn state_ok(engine: Engine, s: State) -> bool
         & estimates::second_estimate_ok(engine, second)
 }
 
-#[tactic(auto, unfolding(contents::specs::Logs::logOk))]
+#[tactic(auto, unfolding(contents::specs::Logs::log_ok))]
 pub fn well_formed(log: Log) -> bool
-    ensures { result ≡ logOk today log }
+    ensures { result ≡ log_ok today log }
 {
     let settings = log.settings;
     let state = log.state;

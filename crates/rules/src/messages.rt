@@ -1,7 +1,7 @@
 // Well-formed messages: each kind has its rule.
 ghost use Rattle.std.specs.Prelude.{◌≡◌};
 ghost use Rattle.tally.specs.Limits.{today};
-ghost use Rattle.contents.specs.Messages.{isEmpty, firstOk, checkOk, secondOk, skipOk, kindOk, messageOk};
+ghost use Rattle.contents.specs.Messages.{is_empty, first_ok, check_ok, second_ok, skip_ok, kind_ok, message_ok};
 
 use super::{estimates, logs};
 use contents::{Kind, Message};
@@ -9,7 +9,7 @@ use tally::limits;
 
 // An empty message counts as no message.
 pub fn is_empty(kind: Kind) -> bool
-    ensures { result ≡ isEmpty kind }
+    ensures { result ≡ is_empty kind }
 {
     match kind {
         Kind::Empty => true,
@@ -20,26 +20,26 @@ pub fn is_empty(kind: Kind) -> bool
     }
 }
 
-#[tactic(auto, unfolding(contents::specs::Messages::firstOk))]
+#[tactic(auto, unfolding(contents::specs::Messages::first_ok))]
 pub fn first_ok(m: Message) -> bool
-    ensures { result ≡ firstOk today m }
+    ensures { result ≡ first_ok today m }
 {
     let estimate = m.estimate;
     let proposal = m.proposal;
     (m.receiver == limits::EVERYONE) & estimates::same_mileage(estimate, proposal)
 }
 
-#[tactic(auto, unfolding(contents::specs::Messages::checkOk))]
+#[tactic(auto, unfolding(contents::specs::Messages::check_ok))]
 pub fn check_ok(m: Message) -> bool
-    ensures { result ≡ checkOk today m }
+    ensures { result ≡ check_ok today m }
 {
     let engine = m.engine;
     estimates::is_b(engine) & first_ok(m)
 }
 
-#[tactic(auto, unfolding(contents::specs::Messages::secondOk))]
+#[tactic(auto, unfolding(contents::specs::Messages::second_ok))]
 pub fn second_ok(m: Message) -> bool
-    ensures { result ≡ secondOk today m }
+    ensures { result ≡ second_ok today m }
 {
     let engine = m.engine;
     let estimate = m.estimate;
@@ -49,18 +49,18 @@ pub fn second_ok(m: Message) -> bool
         & estimates::mileage_or_blank(proposal)
 }
 
-#[tactic(auto, unfolding(contents::specs::Messages::skipOk))]
+#[tactic(auto, unfolding(contents::specs::Messages::skip_ok))]
 pub fn skip_ok(m: Message) -> bool
-    ensures { result ≡ skipOk today m }
+    ensures { result ≡ skip_ok today m }
 {
     let estimate = m.estimate;
     let proposal = m.proposal;
     (m.receiver < m.n) & estimates::is_blank(estimate) & estimates::mileage_or_blank(proposal)
 }
 
-#[tactic(auto, unfolding(contents::specs::Messages::kindOk))]
+#[tactic(auto, unfolding(contents::specs::Messages::kind_ok))]
 pub fn kind_ok(kind: Kind, m: Message) -> bool
-    ensures { result ≡ kindOk today kind m }
+    ensures { result ≡ kind_ok today kind m }
 {
     match kind {
         Kind::Empty => false,
@@ -71,9 +71,9 @@ pub fn kind_ok(kind: Kind, m: Message) -> bool
     }
 }
 
-#[tactic(auto, unfolding(contents::specs::Messages::messageOk))]
+#[tactic(auto, unfolding(contents::specs::Messages::message_ok))]
 pub fn well_formed(m: Message) -> bool
-    ensures { result ≡ messageOk today m }
+    ensures { result ≡ message_ok today m }
 {
     let kind = m.kind;
     logs::numbers_ok(m.n, m.sender, m.entry) & logs::round_ok(m.round) & kind_ok(kind, m)

@@ -7,97 +7,98 @@ use native.Mathlib.Omega.{arith}
 use borrow.Author.Tests.{ltb-true, eqb-true}
 use lib.Dec.{ltb, eqb}
 use lib.ListN.{length}
-use Rattle.script.specs.Numbers.{isNumber, readNumber}
+use Rattle.script.specs.Numbers.{is_number, read_number}
 use Rattle.script.specs.Parts.{comma, onto, parted}
-use Rattle.script.specs.Script.{oneOf, twoOf, unitBelow, pairBelow, ofOne, ofTwo, letterP, letterD, letterW, letterK, letterU, byLetter, eventFields}
-use Rattle.script.specs.Script.{eventOf, eventUnit}
+use Rattle.script.specs.Script.{one_of, two_of, unit_below, pair_below, of_one, of_two, letter_p, letter_d, letter_w, letter_k, letter_u, by_letter}
+use Rattle.script.specs.Script.{event_fields}
+use Rattle.script.specs.Script.{event_of, event_unit}
 use Rattle.script.specs.declared.ScriptEvent.{ScriptEvent}
 use Rattle.script.specs.declared.NumberRead.{NumberRead}
 use Rattle.script.specs.declared.PairRead.{PairRead}
 
-cond-same : (t : Bool) (x : ScriptEvent) → cond t x x ≡ x
-cond-same true x = refl
-cond-same false x = refl
+cond_same : (t : Bool) (x : ScriptEvent) → cond t x x ≡ x
+cond_same true x = refl
+cond_same false x = refl
 
 module _ (n : ℕ) where
   -- ---- first bytes
 
-  letter-malformed : (b : ℕ) (fs : List (List ℕ)) → oneOf fs ≡ NumberRead.Malformed → twoOf fs ≡ PairRead.Malformed → byLetter n b fs ≡ ScriptEvent.Malformed
-  unfolding byLetter
-  letter-malformed b fs p q = simp (p, q, cond-same)
+  letter_malformed : (b : ℕ) (fs : List (List ℕ)) → one_of fs ≡ NumberRead.Malformed → two_of fs ≡ PairRead.Malformed → by_letter n b fs ≡ ScriptEvent.Malformed
+  unfolding by_letter
+  letter_malformed b fs p q = simp (p, q, cond_same)
 
-  pub letter-line : (b : ℕ) (s : List ℕ) → eventOf n (b ∷ comma ∷ s) ≡ byLetter n b (parted comma s)
-  unfolding byLetter eventOf
-  letter-line b s = go (eqb b comma) refl
+  pub letter_line : (b : ℕ) (s : List ℕ) → event_of n (b ∷ comma ∷ s) ≡ by_letter n b (parted comma s)
+  unfolding by_letter event_of
+  letter_line b s = go (eqb b comma) refl
     where
-      go : (t : Bool) → eqb b comma ≡ t → eventOf n (b ∷ comma ∷ s) ≡ byLetter n b (parted comma s)
+      go : (t : Bool) → eqb b comma ≡ t → event_of n (b ∷ comma ∷ s) ≡ by_letter n b (parted comma s)
       go true e = rw (eqb-true b comma e)
       go false e = rw e
 
-  pub other-line : (b d : ℕ) (s : List ℕ) → eqb d comma ≡ false → eventOf n (b ∷ d ∷ s) ≡ ScriptEvent.Malformed
-  unfolding eventOf
-  other-line b d s e = rw e (go (eqb b comma) (parted comma s))
+  pub other_line : (b d : ℕ) (s : List ℕ) → eqb d comma ≡ false → event_of n (b ∷ d ∷ s) ≡ ScriptEvent.Malformed
+  unfolding event_of
+  other_line b d s e = rw e (go (eqb b comma) (parted comma s))
     where
-      go : (t : Bool) (ps : List (List ℕ)) → eventFields n (cond t ([] ∷ onto d ps) (onto b (onto d ps))) ≡ ScriptEvent.Malformed
+      go : (t : Bool) (ps : List (List ℕ)) → event_fields n (cond t ([] ∷ onto d ps) (onto b (onto d ps))) ≡ ScriptEvent.Malformed
       go true ps = refl
       go false [] = refl
       go false (p ∷ ps) = refl
 
-  pub short-line : (line : List ℕ) → length line < 3 → eventOf n line ≡ ScriptEvent.Malformed
-  unfolding isNumber readNumber eventOf
-  short-line [] h = refl
-  short-line (b ∷ []) h = go (eqb b comma)
+  pub short_line : (line : List ℕ) → length line < 3 → event_of n line ≡ ScriptEvent.Malformed
+  unfolding is_number read_number event_of
+  short_line [] h = refl
+  short_line (b ∷ []) h = go (eqb b comma)
     where
-      go : (t : Bool) → eventFields n (cond t ([] ∷ [] ∷ []) ((b ∷ []) ∷ [])) ≡ ScriptEvent.Malformed
+      go : (t : Bool) → event_fields n (cond t ([] ∷ [] ∷ []) ((b ∷ []) ∷ [])) ≡ ScriptEvent.Malformed
       go true = refl
-      go false = letter-malformed b [] refl refl
-  short-line (b ∷ d ∷ []) h = go (eqb d comma) refl
+      go false = letter_malformed b [] refl refl
+  short_line (b ∷ d ∷ []) h = go (eqb d comma) refl
     where
-      go : (t : Bool) → eqb d comma ≡ t → eventOf n (b ∷ d ∷ []) ≡ ScriptEvent.Malformed
-      go true e = rw (eqb-true d comma e) (letter-line b [] ∙ letter-malformed b ([] ∷ []) refl refl)
-      go false e = other-line b d [] e
-  short-line (b ∷ d ∷ f ∷ s) h = absurd (omega arith)
+      go : (t : Bool) → eqb d comma ≡ t → event_of n (b ∷ d ∷ []) ≡ ScriptEvent.Malformed
+      go true e = rw (eqb-true d comma e) (letter_line b [] ∙ letter_malformed b ([] ∷ []) refl refl)
+      go false e = other_line b d [] e
+  short_line (b ∷ d ∷ f ∷ s) h = absurd (omega arith)
 
   -- ---- units
 
   module _ (some : 0 < n) where
-    one-unit : (make : ℕ → ScriptEvent) → ((u : ℕ) → eventUnit (make u) ≡ u) → (a : NumberRead) → eventUnit (ofOne make (unitBelow n a)) < n
-    one-unit make e (NumberRead.Is u) = go (ltb u n) refl
+    one_unit : (make : ℕ → ScriptEvent) → ((u : ℕ) → event_unit (make u) ≡ u) → (a : NumberRead) → event_unit (of_one make (unit_below n a)) < n
+    one_unit make e (NumberRead.Is u) = go (ltb u n) refl
       where
-        go : (t : Bool) → ltb u n ≡ t → eventUnit (ofOne make (cond t (NumberRead.Is u) NumberRead.Malformed)) < n
+        go : (t : Bool) → ltb u n ≡ t → event_unit (of_one make (cond t (NumberRead.Is u) NumberRead.Malformed)) < n
         go true t = rw (e u) (ltb-true u n t)
         go false t = some
-    one-unit make e NumberRead.Malformed = some
+    one_unit make e NumberRead.Malformed = some
 
-    two-unit : (make : ℕ → ℕ → ScriptEvent) → ((u x : ℕ) → eventUnit (make u x) ≡ u) → (p : PairRead) → eventUnit (ofTwo make (pairBelow n p)) < n
-    two-unit make e (PairRead.Are u x) = go (ltb u n) refl
+    two_unit : (make : ℕ → ℕ → ScriptEvent) → ((u x : ℕ) → event_unit (make u x) ≡ u) → (p : PairRead) → event_unit (of_two make (pair_below n p)) < n
+    two_unit make e (PairRead.Are u x) = go (ltb u n) refl
       where
-        go : (t : Bool) → ltb u n ≡ t → eventUnit (ofTwo make (cond t (PairRead.Are u x) PairRead.Malformed)) < n
+        go : (t : Bool) → ltb u n ≡ t → event_unit (of_two make (cond t (PairRead.Are u x) PairRead.Malformed)) < n
         go true t = rw (e u x) (ltb-true u n t)
         go false t = some
-    two-unit make e PairRead.Malformed = some
+    two_unit make e PairRead.Malformed = some
 
-    either : (t : Bool) (x y : ScriptEvent) → eventUnit x < n → eventUnit y < n → eventUnit (cond t x y) < n
+    either : (t : Bool) (x y : ScriptEvent) → event_unit x < n → event_unit y < n → event_unit (cond t x y) < n
     either true x y p q = p
     either false x y p q = q
 
-    letter-unit : (b : ℕ) (fs : List (List ℕ)) → eventUnit (byLetter n b fs) < n
-    unfolding byLetter
-    letter-unit b fs =
-        let two = twoOf fs in
-        let one = oneOf fs in
-        either (eqb b letterP) _ _ (two-unit ScriptEvent.Propose (λ u x. refl) two)
-        (either (eqb b letterD) _ _ (two-unit ScriptEvent.Deliver (λ u x. refl) two)
-        (either (eqb b letterW) _ _ (two-unit ScriptEvent.Cut (λ u x. refl) two)
-        (either (eqb b letterK) _ _ (one-unit ScriptEvent.KeyOff (λ u. refl) one)
-        (either (eqb b letterU) _ _ (one-unit ScriptEvent.KeyOn (λ u. refl) one) some))))
+    letter_unit : (b : ℕ) (fs : List (List ℕ)) → event_unit (by_letter n b fs) < n
+    unfolding by_letter
+    letter_unit b fs =
+        let two = two_of fs in
+        let one = one_of fs in
+        either (eqb b letter_p) _ _ (two_unit ScriptEvent.Propose (λ u x. refl) two)
+        (either (eqb b letter_d) _ _ (two_unit ScriptEvent.Deliver (λ u x. refl) two)
+        (either (eqb b letter_w) _ _ (two_unit ScriptEvent.Cut (λ u x. refl) two)
+        (either (eqb b letter_k) _ _ (one_unit ScriptEvent.KeyOff (λ u. refl) one)
+        (either (eqb b letter_u) _ _ (one_unit ScriptEvent.KeyOn (λ u. refl) one) some))))
 
-    fields-unit : (ps : List (List ℕ)) → eventUnit (eventFields n ps) < n
-    fields-unit [] = some
-    fields-unit ([] ∷ fs) = some
-    fields-unit ((b ∷ []) ∷ fs) = letter-unit b fs
-    fields-unit ((b ∷ d ∷ s) ∷ fs) = some
+    fields_unit : (ps : List (List ℕ)) → event_unit (event_fields n ps) < n
+    fields_unit [] = some
+    fields_unit ([] ∷ fs) = some
+    fields_unit ((b ∷ []) ∷ fs) = letter_unit b fs
+    fields_unit ((b ∷ d ∷ s) ∷ fs) = some
 
-pub event-unit : (n : ℕ) (line : List ℕ) → 0 < n → eventUnit (eventOf n line) < n
-unfolding eventOf
-event-unit n line h = fields-unit n h (parted comma line)
+pub event_unit_lem : (n : ℕ) (line : List ℕ) → 0 < n → event_unit (event_of n line) < n
+unfolding event_of
+event_unit_lem n line h = fields_unit n h (parted comma line)

@@ -8,52 +8,52 @@ use native.Mathlib.Omega.{arith}
 use borrow.Author.Tests.{leb-true, ne_eqb}
 use lib.Dec.{leb}
 use lib.ListN.{length, drop}
-use Rattle.contents.proofs.Tests.{both-true}
-use Rattle.script.specs.Numbers.{digitZero, digitNine, isDigit, allDigits, isNumber, readNumber}
+use Rattle.contents.proofs.Tests.{both_true}
+use Rattle.script.specs.Numbers.{digit_zero, digit_nine, is_digit, all_digits, is_number, read_number}
 use Rattle.script.specs.Parts.{comma, parted}
 use Rattle.script.specs.InnerParts.{before}
-use Rattle.script.specs.Script.{both, oneOf, twoOf}
+use Rattle.script.specs.Script.{both, one_of, two_of}
 use Rattle.script.specs.declared.NumberRead.{NumberRead}
 use Rattle.script.specs.declared.PairRead.{PairRead}
-use Rattle.script.proofs.Parting.{parted-there, parted-none, parted-some}
+use Rattle.script.proofs.Parting.{parted_there, parted_none, parted_some}
 
-pub digit-range : (b : ℕ) → isDigit b ≡ true → (digitZero ≤ b) × (b ≤ digitNine)
-digit-range b h = let t = both-true (leb digitZero b) (leb b digitNine) h in (leb-true digitZero b t.0, leb-true b digitNine t.1)
+pub digit_range : (b : ℕ) → is_digit b ≡ true → (digit_zero ≤ b) × (b ≤ digit_nine)
+digit_range b h = let t = both_true (leb digit_zero b) (leb b digit_nine) h in (leb-true digit_zero b t.0, leb-true b digit_nine t.1)
 
-no-comma : (s : List ℕ) → allDigits s ≡ true → length s ≤ before comma s
-no-comma [] h = omega arith
-no-comma (b ∷ s) h =
-    let t = both-true (isDigit b) (allDigits s) h in
-    let d = digit-range b t.0 in
+no_comma : (s : List ℕ) → all_digits s ≡ true → length s ≤ before comma s
+no_comma [] h = omega arith
+no_comma (b ∷ s) h =
+    let t = both_true (is_digit b) (all_digits s) h in
+    let d = digit_range b t.0 in
     let n : b ≡ comma → ⊥ = λ e. omega arith in
-    rw (ne_eqb b comma n) (omega (arith, no-comma s t.1))
+    rw (ne_eqb b comma n) (omega (arith, no_comma s t.1))
 
-pub digits-whole : (s : List ℕ) → allDigits s ≡ true → parted comma s ≡ s ∷ []
-digits-whole s h = parted-none comma s (no-comma s h)
+pub digits_whole : (s : List ℕ) → all_digits s ≡ true → parted comma s ≡ s ∷ []
+digits_whole s h = parted_none comma s (no_comma s h)
 
 -- a field with a comma is no number
-comma-in : (s : List ℕ) → before comma s < length s → readNumber s ≡ NumberRead.Malformed
-unfolding isNumber readNumber
-comma-in s h = go (allDigits s) refl
+comma_in : (s : List ℕ) → before comma s < length s → read_number s ≡ NumberRead.Malformed
+unfolding is_number read_number
+comma_in s h = go (all_digits s) refl
   where
-    go : (t : Bool) → allDigits s ≡ t → readNumber s ≡ NumberRead.Malformed
-    go true e = absurd (omega (arith, no-comma s e))
+    go : (t : Bool) → all_digits s ≡ t → read_number s ≡ NumberRead.Malformed
+    go true e = absurd (omega (arith, no_comma s e))
     go false e = simp (e, and-false)
 
-pub one-number : (s : List ℕ) → oneOf (parted comma s) ≡ readNumber s
-one-number s = go (dec_lt (before comma s) (length s))
+pub one_number : (s : List ℕ) → one_of (parted comma s) ≡ read_number s
+one_number s = go (dec_lt (before comma s) (length s))
   where
-    go : Dec (before comma s < length s) → oneOf (parted comma s) ≡ readNumber s
-    go (yes l) = rw (parted-there comma s l, comma-in s l, (parted-some comma (drop (before comma s + 1) s)).same)
-    go (no n) = rw (parted-none comma s (omega arith))
+    go : Dec (before comma s < length s) → one_of (parted comma s) ≡ read_number s
+    go (yes l) = rw (parted_there comma s l, comma_in s l, (parted_some comma (drop (before comma s + 1) s)).same)
+    go (no n) = rw (parted_none comma s (omega arith))
 
-pub two-numbers : (p s : List ℕ) → twoOf (p ∷ parted comma s) ≡ both (readNumber p) (readNumber s)
-two-numbers p s = go (dec_lt (before comma s) (length s))
+pub two_numbers : (p s : List ℕ) → two_of (p ∷ parted comma s) ≡ both (read_number p) (read_number s)
+two_numbers p s = go (dec_lt (before comma s) (length s))
   where
-    not-both : (a : NumberRead) → PairRead.Malformed ≡ both a NumberRead.Malformed
-    not-both (NumberRead.Is x) = refl
-    not-both NumberRead.Malformed = refl
+    not_both : (a : NumberRead) → PairRead.Malformed ≡ both a NumberRead.Malformed
+    not_both (NumberRead.Is x) = refl
+    not_both NumberRead.Malformed = refl
 
-    go : Dec (before comma s < length s) → twoOf (p ∷ parted comma s) ≡ both (readNumber p) (readNumber s)
-    go (yes l) = rw (parted-there comma s l, comma-in s l, (parted-some comma (drop (before comma s + 1) s)).same) (not-both (readNumber p))
-    go (no n) = rw (parted-none comma s (omega arith))
+    go : Dec (before comma s < length s) → two_of (p ∷ parted comma s) ≡ both (read_number p) (read_number s)
+    go (yes l) = rw (parted_there comma s l, comma_in s l, (parted_some comma (drop (before comma s + 1) s)).same) (not_both (read_number p))
+    go (no n) = rw (parted_none comma s (omega arith))

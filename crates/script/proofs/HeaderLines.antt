@@ -6,42 +6,42 @@ use mathlib.Core.List.{List, [], ◌∷◌}
 use native.Mathlib.Omega.{arith}
 use borrow.Author.Tests.{leb-true}
 use lib.Dec.{leb}
-use Rattle.tally.specs.Limits.{minUnits, maxUnits, minEntry, maxEntry}
-use Rattle.contents.proofs.Tests.{both-true}
+use Rattle.tally.specs.Limits.{min_units, max_units, min_entry, max_entry}
+use Rattle.contents.proofs.Tests.{both_true}
 use Rattle.formats.specs.declared.EngineRead.{EngineRead}
 use Rattle.script.specs.Parts.{comma, parted}
-use Rattle.script.specs.Script.{twoOf, engineField, inRanges, headerWith, withNumbers, headerFields, headerOf}
+use Rattle.script.specs.Script.{two_of, engine_field, in_ranges, header_with, with_numbers, header_fields, header_of}
 use Rattle.script.specs.declared.Header.{Header}
 use Rattle.script.specs.declared.HeaderRead.{HeaderRead}
 use Rattle.script.specs.declared.PairRead.{PairRead}
 
-pub ranges : (n entry : ℕ) → inRanges n entry ≡ true → (minUnits ≤ n) × (n ≤ maxUnits) × (minEntry ≤ entry) × (entry ≤ maxEntry)
+pub ranges : (n entry : ℕ) → in_ranges n entry ≡ true → (min_units ≤ n) × (n ≤ max_units) × (min_entry ≤ entry) × (entry ≤ max_entry)
 ranges n entry h =
-    let a = both-true (leb minUnits n && leb n maxUnits && leb minEntry entry) (leb entry maxEntry) h in
-    let b = both-true (leb minUnits n && leb n maxUnits) (leb minEntry entry) a.0 in
-    let d = both-true (leb minUnits n) (leb n maxUnits) b.0 in
-    (leb-true minUnits n d.0, leb-true n maxUnits d.1, leb-true minEntry entry b.1, leb-true entry maxEntry a.1)
+    let a = both_true (leb min_units n && leb n max_units && leb min_entry entry) (leb entry max_entry) h in
+    let b = both_true (leb min_units n && leb n max_units) (leb min_entry entry) a.0 in
+    let d = both_true (leb min_units n) (leb n max_units) b.0 in
+    (leb-true min_units n d.0, leb-true n max_units d.1, leb-true min_entry entry b.1, leb-true entry max_entry a.1)
 
-pub header-range : (line : List ℕ) (h : Header) → headerOf line ≡ HeaderRead.Is h → inRanges h.n h.entry ≡ true
-unfolding headerOf
-header-range line h = of-fields (parted comma line)
+pub header_range : (line : List ℕ) (h : Header) → header_of line ≡ HeaderRead.Is h → in_ranges h.n h.entry ≡ true
+unfolding header_of
+header_range line h = of_fields (parted comma line)
   where
     unread : {A : Type 0} → HeaderRead.Malformed ≡ HeaderRead.Is h → A
     unread e = let z : ◌≡◌ {A = ℕ} 0 1 = cc in absurd (omega arith)
 
-    of-engine : (g : EngineRead) (n entry : ℕ) → inRanges n entry ≡ true → headerWith g n entry ≡ HeaderRead.Is h
-        → inRanges h.n h.entry ≡ true
-    of-engine (EngineRead.Is g) n entry r e = let q : ◌≡◌ {A = Header} (record { engine = g; n = n; entry = entry }) h = cc in rw (← q) r
-    of-engine EngineRead.Unknown n entry r e = unread e
+    of_engine : (g : EngineRead) (n entry : ℕ) → in_ranges n entry ≡ true → header_with g n entry ≡ HeaderRead.Is h
+        → in_ranges h.n h.entry ≡ true
+    of_engine (EngineRead.Is g) n entry r e = let q : ◌≡◌ {A = Header} (record { engine = g; n = n; entry = entry }) h = cc in rw (← q) r
+    of_engine EngineRead.Unknown n entry r e = unread e
 
-    of-numbers : (f : List ℕ) (p : PairRead) → withNumbers f p ≡ HeaderRead.Is h → inRanges h.n h.entry ≡ true
-    of-numbers f (PairRead.Are n entry) e = go (inRanges n entry) refl
+    of_numbers : (f : List ℕ) (p : PairRead) → with_numbers f p ≡ HeaderRead.Is h → in_ranges h.n h.entry ≡ true
+    of_numbers f (PairRead.Are n entry) e = go (in_ranges n entry) refl
       where
-        go : (t : Bool) → inRanges n entry ≡ t → inRanges h.n h.entry ≡ true
-        go true r = of-engine (engineField n f) n entry r (rw r at e)
+        go : (t : Bool) → in_ranges n entry ≡ t → in_ranges h.n h.entry ≡ true
+        go true r = of_engine (engine_field n f) n entry r (rw r at e)
         go false r = unread (rw r at e)
-    of-numbers f PairRead.Malformed e = unread e
+    of_numbers f PairRead.Malformed e = unread e
 
-    of-fields : (fs : List (List ℕ)) → headerFields fs ≡ HeaderRead.Is h → inRanges h.n h.entry ≡ true
-    of-fields [] e = unread e
-    of-fields (f ∷ fs) e = of-numbers f (twoOf fs) e
+    of_fields : (fs : List (List ℕ)) → header_fields fs ≡ HeaderRead.Is h → in_ranges h.n h.entry ≡ true
+    of_fields [] e = unread e
+    of_fields (f ∷ fs) e = of_numbers f (two_of fs) e

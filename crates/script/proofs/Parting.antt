@@ -13,13 +13,13 @@ use Rattle.script.specs.Parts.{onto, parted}
 use Rattle.script.specs.InnerParts.{before}
 
 -- a slice from k to the end
-pub from-there : (s : List ℕ) (k : ℕ) → take (length s - k) (drop k s) ≡ drop k s
-from-there s k = take_all (length s - k) (drop k s) (rw length-drop (le_refl (length s - k)))
+pub from_there : (s : List ℕ) (k : ℕ) → take (length s - k) (drop k s) ≡ drop k s
+from_there s k = take_all (length s - k) (drop k s) (rw length-drop (le_refl (length s - k)))
 
 module _ (c : ℕ) where
-  pub before-le : (s : List ℕ) → before c s ≤ length s
-  before-le [] = omega arith
-  before-le (b ∷ s) = go (before-le s) (eqb b c)
+  pub before_le : (s : List ℕ) → before c s ≤ length s
+  before_le [] = omega arith
+  before_le (b ∷ s) = go (before_le s) (eqb b c)
     where
       go : before c s ≤ length s → (t : Bool) → cond t 0 (suc (before c s)) ≤ suc (length s)
       go ih true = omega arith
@@ -36,17 +36,17 @@ module _ (c : ℕ) where
       go ih true h = refl
       go ih false h = ap (onto b) (ih (omega arith))
 
-  pub parted-there : (s : List ℕ) → before c s < length s → parted c s ≡ take (before c s) s ∷ parted c (drop (before c s + 1) s)
-  parted-there s h = rw add-one (there s h)
+  pub parted_there : (s : List ℕ) → before c s < length s → parted c s ≡ take (before c s) s ∷ parted c (drop (before c s + 1) s)
+  parted_there s h = rw add-one (there s h)
 
   -- the same, as code has its slices
-  pub parted-at : (s : List ℕ) (e : ℕ) → e ≡ before c s → e < length s
+  pub parted_at : (s : List ℕ) (e : ℕ) → e ≡ before c s → e < length s
       → parted c s ≡ take e s ∷ parted c (take (length s - (e + 1)) (drop (e + 1) s))
-  parted-at s e q h = let l : before c s < length s = omega arith in rw (from-there s (e + 1), q) (parted-there s l)
+  parted_at s e q h = let l : before c s < length s = omega arith in rw (from_there s (e + 1), q) (parted_there s l)
 
-  pub parted-none : (s : List ℕ) → length s ≤ before c s → parted c s ≡ s ∷ []
-  parted-none [] h = refl
-  parted-none (b ∷ s) h = go (parted-none s) (eqb b c) h
+  pub parted_none : (s : List ℕ) → length s ≤ before c s → parted c s ≡ s ∷ []
+  parted_none [] h = refl
+  parted_none (b ∷ s) h = go (parted_none s) (eqb b c) h
     where
       go : (length s ≤ before c s → parted c s ≡ s ∷ []) → (t : Bool) → suc (length s) ≤ cond t 0 (suc (before c s))
           → cond t ([] ∷ parted c s) (onto b (parted c s)) ≡ (b ∷ s) ∷ []
@@ -59,9 +59,9 @@ pub record Some (ps : List (List ℕ)) : Type 0 where
   pub others : List (List ℕ)
   pub same : ps ≡ first ∷ others
 
-pub parted-some : (c : ℕ) (s : List ℕ) → Some (parted c s)
-parted-some c [] = record { first = []; others = []; same = refl }
-parted-some c (b ∷ s) = go (eqb b c) (parted-some c s)
+pub parted_some : (c : ℕ) (s : List ℕ) → Some (parted c s)
+parted_some c [] = record { first = []; others = []; same = refl }
+parted_some c (b ∷ s) = go (eqb b c) (parted_some c s)
   where
     go : (t : Bool) → Some (parted c s) → Some (cond t ([] ∷ parted c s) (onto b (parted c s)))
     go true r = record { first = []; others = parted c s; same = refl }

@@ -3,42 +3,42 @@ use Rattle.std.specs.Prelude.{ℕ, ◌+◌, ◌-◌, ◌*◌, Bool, true, not, c
 use Rattle.script.specs.declared.NumberRead.{NumberRead}
 
 -- digits are in ASCII
-abbrev pub digitZero : ℕ
-digitZero = 48
+abbrev pub digit_zero : ℕ
+digit_zero = 48
 
-abbrev pub digitNine : ℕ
-digitNine = 57
+abbrev pub digit_nine : ℕ
+digit_nine = 57
 
-abbrev pub maxDigits : ℕ
-maxDigits = 10
+abbrev pub max_digits : ℕ
+max_digits = 10
 
-abbrev pub maxNumber : ℕ
-maxNumber = 4294967295
+abbrev pub max_number : ℕ
+max_number = 4294967295
 
-abbrev pub isDigit : ℕ → Bool
-isDigit b = leb digitZero b && leb b digitNine
+abbrev pub is_digit : ℕ → Bool
+is_digit b = leb digit_zero b && leb b digit_nine
 
-abbrev pub allDigits : List ℕ → Bool
-allDigits [] = true
-allDigits (b ∷ s) = isDigit b && allDigits s
+abbrev pub all_digits : List ℕ → Bool
+all_digits [] = true
+all_digits (b ∷ s) = is_digit b && all_digits s
 
 -- 0 by itself is fine
-abbrev pub leadingZero : List ℕ → Bool
-leadingZero s = leb 2 (length s) && eqb (get_or s 0 0) digitZero
+abbrev pub leading_zero : List ℕ → Bool
+leading_zero s = leb 2 (length s) && eqb (get_or s 0 0) digit_zero
 
 -- the value of the digits s after those that v is the value of
-abbrev pub valueFrom : ℕ → List ℕ → ℕ
-valueFrom v [] = v
-valueFrom v (b ∷ s) = valueFrom (v * 10 + (b - digitZero)) s
+abbrev pub value_from : ℕ → List ℕ → ℕ
+value_from v [] = v
+value_from v (b ∷ s) = value_from (v * 10 + (b - digit_zero)) s
 
 -- 1 to 10 digits, no leading zero, at most 4,294,967,295
-unfoldable pub isNumber : List ℕ → Bool
-isNumber s =
+unfoldable pub is_number : List ℕ → Bool
+is_number s =
     leb 1 (length s)
-    && leb (length s) maxDigits
-    && allDigits s
-    && not (leadingZero s)
-    && leb (valueFrom 0 s) maxNumber
+    && leb (length s) max_digits
+    && all_digits s
+    && not (leading_zero s)
+    && leb (value_from 0 s) max_number
 
-unfoldable pub readNumber : List ℕ → NumberRead
-readNumber s = cond (isNumber s) (NumberRead.Is (valueFrom 0 s)) NumberRead.Malformed
+unfoldable pub read_number : List ℕ → NumberRead
+read_number s = cond (is_number s) (NumberRead.Is (value_from 0 s)) NumberRead.Malformed

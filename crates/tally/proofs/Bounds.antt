@@ -2,27 +2,27 @@
 use mathlib.Core.Path.{◌≡◌, refl}
 use Prim.Native.Nat.{◌^◌, ◌<◌}
 use native.Mathlib.Omega.{arith}
-use Rattle.tally.specs.Limits.{Sane, today, blankCode, splitCode, maxUnits, maxEntry, everyone, logSize, imageSize, messageSize}
+use Rattle.tally.specs.Limits.{Sane, today, blank_code, split_code, max_units, max_entry, everyone, log_size, image_size, message_size}
 
-pub sane-today : Sane today
-sane-today = record { mileage-below-split = omega arith; round-fits = omega arith }
+pub sane_today : Sane today
+sane_today = record { mileage_below_split = omega arith; round_fits = omega arith }
 
 -- the others, which stay as they are
-pub split-below-blank : splitCode < blankCode
-split-below-blank = omega arith
+pub split_below_blank : split_code < blank_code
+split_below_blank = omega arith
 
-pub blank-fits : blankCode < 256 ^ 4
-blank-fits = omega arith
+pub blank_fits : blank_code < 256 ^ 4
+blank_fits = omega arith
 
-pub units-fit : maxUnits < everyone
-units-fit = omega arith
+pub units_fit : max_units < everyone
+units_fit = omega arith
 
-pub everyone-fits : everyone < 256 ^ 1
-everyone-fits = omega arith
+pub everyone_fits : everyone < 256 ^ 1
+everyone_fits = omega arith
 
-pub entry-fits : maxEntry < 256 ^ 2
-entry-fits = omega arith
+pub entry_fits : max_entry < 256 ^ 2
+entry_fits = omega arith
 
 -- the sizes as the scope paper has them
-pub sizes-today : (logSize today ≡ 20) × ((imageSize today ≡ 152) × (messageSize today ≡ 18))
-sizes-today = (refl, (refl, refl))
+pub sizes_today : (log_size today ≡ 20) × ((image_size today ≡ 152) × (message_size today ≡ 18))
+sizes_today = (refl, (refl, refl))

@@ -6,28 +6,28 @@ use Prim.Native.Nat.{ℕ, zero, suc, ◌+◌, ◌≤◌, ◌<◌}
 use native.Mathlib.Decide.{dec_lt}
 use native.Mathlib.Omega.{arith}
 use lib.ListN.{length}
-use Rattle.tally.specs.Count.{bump, passing, upTo, count, Both}
+use Rattle.tally.specs.Count.{bump, passing, up_to, count, Both}
 use Rattle.tally.proofs.Never.{never}
 
 -- ---- of a list
 
 module _ {A : Type 0} where
-  pub passing-le : (P : A → Bool) (xs : List A) → passing P xs ≤ length xs
-  passing-le P [] = omega arith
-  passing-le P (x ∷ xs) = go (P x) (passing-le P xs)
+  pub passing_le : (P : A → Bool) (xs : List A) → passing P xs ≤ length xs
+  passing_le P [] = omega arith
+  passing_le P (x ∷ xs) = go (P x) (passing_le P xs)
     where
       go : (b : Bool) → passing P xs ≤ length xs → bump b (passing P xs) ≤ suc (length xs)
       go true h = omega arith
       go false h = omega arith
 
-  pub passing-all : (xs : List A) → passing (λ x. true) xs ≡ length xs
-  passing-all [] = refl
-  passing-all (x ∷ xs) = ap suc (passing-all xs)
+  pub passing_all : (xs : List A) → passing (λ x. true) xs ≡ length xs
+  passing_all [] = refl
+  passing_all (x ∷ xs) = ap suc (passing_all xs)
 
   -- those that pass P are those that pass Q too and those that do not
-  pub passing-split : (P Q : A → Bool) (xs : List A) → passing P xs ≡ passing (λ x. P x && Q x) xs + passing (λ x. P x && not (Q x)) xs
-  passing-split P Q [] = refl
-  passing-split P Q (x ∷ xs) = go (passing-split P Q xs) (P x) (Q x)
+  pub passing_split : (P Q : A → Bool) (xs : List A) → passing P xs ≡ passing (λ x. P x && Q x) xs + passing (λ x. P x && not (Q x)) xs
+  passing_split P Q [] = refl
+  passing_split P Q (x ∷ xs) = go (passing_split P Q xs) (P x) (Q x)
     where
       go : passing P xs ≡ passing (λ x. P x && Q x) xs + passing (λ x. P x && not (Q x)) xs → (a b : Bool)
           → bump a (passing P xs) ≡ bump (a && b) (passing (λ x. P x && Q x) xs) + bump (a && not b) (passing (λ x. P x && not (Q x)) xs)
@@ -41,18 +41,18 @@ module _ {A : Type 0} where
   Each F [] = Unit
   Each F (x ∷ xs) = F x × Each F xs
 
-  pub each-map : {F G : A → Type 0} → ((x : A) → F x → G x) → (xs : List A) → Each F xs → Each G xs
-  each-map f [] h = tt
-  each-map f (x ∷ xs) h = (f x h.0, each-map f xs h.1)
+  pub each_map : {F G : A → Type 0} → ((x : A) → F x → G x) → (xs : List A) → Each F xs → Each G xs
+  each_map f [] h = tt
+  each_map f (x ∷ xs) h = (f x h.0, each_map f xs h.1)
 
   pub each : (F : A → Type 0) → ((x : A) → F x) → (xs : List A) → Each F xs
   each F f [] = tt
   each F f (x ∷ xs) = (f x, each F f xs)
 
   -- a weaker test is passed by no fewer
-  pub passing-mono : (P Q : A → Bool) (xs : List A) → Each (λ x. P x ≡ true → Q x ≡ true) xs → passing P xs ≤ passing Q xs
-  passing-mono P Q [] f = omega arith
-  passing-mono P Q (x ∷ xs) f = go (P x) (Q x) f.0 (passing-mono P Q xs f.1)
+  pub passing_mono : (P Q : A → Bool) (xs : List A) → Each (λ x. P x ≡ true → Q x ≡ true) xs → passing P xs ≤ passing Q xs
+  passing_mono P Q [] f = omega arith
+  passing_mono P Q (x ∷ xs) f = go (P x) (Q x) f.0 (passing_mono P Q xs f.1)
     where
       go : (a b : Bool) → (a ≡ true → b ≡ true) → passing P xs ≤ passing Q xs → bump a (passing P xs) ≤ bump b (passing Q xs)
       go true true f h = omega arith
@@ -62,22 +62,22 @@ module _ {A : Type 0} where
 
 -- ---- of the units below n
 
-each-below : (n : ℕ) (F : ℕ → Type 0) → ((u : ℕ) → u < n → F u) → Each F (upTo n)
-each-below zero F f = tt
-each-below (suc k) F f = (f k (omega arith), each-below k F (λ u h. f u (omega arith)))
+each_below : (n : ℕ) (F : ℕ → Type 0) → ((u : ℕ) → u < n → F u) → Each F (up_to n)
+each_below zero F f = tt
+each_below (suc k) F f = (f k (omega arith), each_below k F (λ u h. f u (omega arith)))
 
-pub count-mono : (n : ℕ) (P Q : ℕ → Bool) → ((u : ℕ) → u < n → P u ≡ true → Q u ≡ true) → count n P ≤ count n Q
-count-mono n P Q f = passing-mono P Q (upTo n) (each-below n (λ u. P u ≡ true → Q u ≡ true) f)
+pub count_mono : (n : ℕ) (P Q : ℕ → Bool) → ((u : ℕ) → u < n → P u ≡ true → Q u ≡ true) → count n P ≤ count n Q
+count_mono n P Q f = passing_mono P Q (up_to n) (each_below n (λ u. P u ≡ true → Q u ≡ true) f)
 
 -- a count goes by what each unit passes
-pub count-same : (n : ℕ) (P Q : ℕ → Bool) → ((u : ℕ) → u < n → P u ≡ Q u) → count n P ≡ count n Q
-count-same zero P Q f = refl
-count-same (suc k) P Q f = rw (f k (omega arith), count-same k P Q (λ u h. f u (omega arith)))
+pub count_same : (n : ℕ) (P Q : ℕ → Bool) → ((u : ℕ) → u < n → P u ≡ Q u) → count n P ≡ count n Q
+count_same zero P Q f = refl
+count_same (suc k) P Q f = rw (f k (omega arith), count_same k P Q (λ u h. f u (omega arith)))
 
 -- units that do not pass may be left out
-pub count-below : (n k : ℕ) (P : ℕ → Bool) → n ≤ k → ((u : ℕ) → n ≤ u → u < k → P u ≡ false) → count k P ≡ count n P
-count-below n zero P h f = let e : n ≡ 0 = omega arith in rw e
-count-below n (suc k) P h f = go (λ l. count-below n k P l (λ u a b. f u a (omega arith))) (dec_lt k n)
+pub count_below : (n k : ℕ) (P : ℕ → Bool) → n ≤ k → ((u : ℕ) → n ≤ u → u < k → P u ≡ false) → count k P ≡ count n P
+count_below n zero P h f = let e : n ≡ 0 = omega arith in rw e
+count_below n (suc k) P h f = go (λ l. count_below n k P l (λ u a b. f u a (omega arith))) (dec_lt k n)
   where
     go : (n ≤ k → count k P ≡ count n P) → Dec (k < n) → count (suc k) P ≡ count n P
     go ih (yes l) = let e : n ≡ suc k = omega arith in rw e

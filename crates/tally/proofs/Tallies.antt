@@ -13,149 +13,149 @@ use lib.Pow.{pow-lt, pow_pos}
 use lib.Seq.{get_or-set_same, get_or-set_other}
 use Rattle.tally.specs.Limits.{senders}
 use Rattle.tally.specs.Count.{bump, passing, count, Both}
-use Rattle.tally.specs.Gathered.{hasValue, holders, firstPassing}
+use Rattle.tally.specs.Gathered.{has_value, holders, first_passing}
 use Rattle.tally.specs.InnerGathered.{agrees}
-use Rattle.tally.specs.Tally.{Typed, OnlyBelow, noMarks, isMarked, blankCell, estimateAt, held, mark, gatheredFrom, gathered}
-use Rattle.tally.specs.Quorum.{quorumOf}
+use Rattle.tally.specs.Tally.{Typed, OnlyBelow, no_marks, is_marked, blank_cell, estimate_at, held, mark, gathered_from, gathered}
+use Rattle.tally.specs.Quorum.{quorum_of}
 use Rattle.tally.specs.declared.Cell.{Cell}
 use Rattle.tally.specs.declared.Engine.{Engine}
 use Rattle.tally.specs.declared.Estimate.{Estimate}
 use Rattle.tally.specs.declared.Estimate.TheVariants.{Blank, Split}
 use Rattle.tally.specs.declared.Tally.{Tally}
-use Rattle.tally.proofs.Count.{passing-all, count-same, count-below}
-use Rattle.tally.proofs.Gathered.{after, after-one}
-use Rattle.tally.proofs.Quorums.{quorums-overlap}
-use Rattle.tally.proofs.Marks.{ones-senders, mark-same, mark-other, unmarked-none}
+use Rattle.tally.proofs.Count.{passing_all, count_same, count_below}
+use Rattle.tally.proofs.Gathered.{after, after_one}
+use Rattle.tally.proofs.Quorums.{quorums_overlap}
+use Rattle.tally.proofs.Marks.{ones_senders, mark_same, mark_other, unmarked_none}
 
 -- those gathered from the sender s on
 abbrev pub rest : Tally → ℕ → List Estimate
-rest t s = gatheredFrom t s (senders - s)
+rest t s = gathered_from t s (senders - s)
 
 -- one turn of a loop over the senders
-rest-step : (t : Tally) (s : ℕ) → s < senders → rest t s ≡ cond (isMarked t.marks s) (estimateAt t s ∷ rest t (s + 1)) (rest t (s + 1))
-unfolding gatheredFrom
-rest-step t s below = let e : senders - s ≡ suc (senders - (s + 1)) = omega arith in rw e (rw (add-one s))
+rest_step : (t : Tally) (s : ℕ) → s < senders → rest t s ≡ cond (is_marked t.marks s) (estimate_at t s ∷ rest t (s + 1)) (rest t (s + 1))
+unfolding gathered_from
+rest_step t s below = let e : senders - s ≡ suc (senders - (s + 1)) = omega arith in rw e (rw (add-one s))
 
 -- the same, for those that pass a test
 module _ (P : Estimate → Bool) (t : Tally) (s : ℕ) (below : s < senders) where
-  pub passing-step : passing P (rest t s) ≡ bump (isMarked t.marks s && P (estimateAt t s)) (passing P (rest t (s + 1)))
-  passing-step = ap (passing P) (rest-step t s below) ∙ go (isMarked t.marks s) (rest t (s + 1))
+  pub passing_step : passing P (rest t s) ≡ bump (is_marked t.marks s && P (estimate_at t s)) (passing P (rest t (s + 1)))
+  passing_step = ap (passing P) (rest_step t s below) ∙ go (is_marked t.marks s) (rest t (s + 1))
     where
-      go : (b : Bool) (es : List Estimate) → passing P (cond b (estimateAt t s ∷ es) es) ≡ bump (b && P (estimateAt t s)) (passing P es)
+      go : (b : Bool) (es : List Estimate) → passing P (cond b (estimate_at t s ∷ es) es) ≡ bump (b && P (estimate_at t s)) (passing P es)
       go true es = refl
       go false es = refl
 
-  pub first-step : firstPassing P (rest t s) ≡ cond (isMarked t.marks s && P (estimateAt t s)) (estimateAt t s) (firstPassing P (rest t (s + 1)))
-  unfolding firstPassing
-  first-step = ap (firstPassing P) (rest-step t s below) ∙ go (isMarked t.marks s) (rest t (s + 1))
+  pub first_step : first_passing P (rest t s) ≡ cond (is_marked t.marks s && P (estimate_at t s)) (estimate_at t s) (first_passing P (rest t (s + 1)))
+  unfolding first_passing
+  first_step = ap (first_passing P) (rest_step t s below) ∙ go (is_marked t.marks s) (rest t (s + 1))
     where
-      go : (b : Bool) (es : List Estimate) → firstPassing P (cond b (estimateAt t s ∷ es) es)
-          ≡ cond (b && P (estimateAt t s)) (estimateAt t s) (firstPassing P es)
+      go : (b : Bool) (es : List Estimate) → first_passing P (cond b (estimate_at t s ∷ es) es)
+          ≡ cond (b && P (estimate_at t s)) (estimate_at t s) (first_passing P es)
       go true es = refl
       go false es = refl
 
 -- the same, for what is common
-pub after-step : (a : Estimate) (t : Tally) (s : ℕ) → s < senders
+pub after_step : (a : Estimate) (t : Tally) (s : ℕ) → s < senders
     → after a (rest t s)
-    ≡ cond (isMarked t.marks s) (cond (agrees a (estimateAt t s)) (after (estimateAt t s) (rest t (s + 1))) Split) (after a (rest t (s + 1)))
-after-step a t s below = ap (after a) (rest-step t s below) ∙ go (isMarked t.marks s) (rest t (s + 1))
+    ≡ cond (is_marked t.marks s) (cond (agrees a (estimate_at t s)) (after (estimate_at t s) (rest t (s + 1))) Split) (after a (rest t (s + 1)))
+after_step a t s below = ap (after a) (rest_step t s below) ∙ go (is_marked t.marks s) (rest t (s + 1))
   where
     go : (b : Bool) (es : List Estimate)
-        → after a (cond b (estimateAt t s ∷ es) es) ≡ cond b (cond (agrees a (estimateAt t s)) (after (estimateAt t s) es) Split) (after a es)
-    go true es = after-one a (estimateAt t s) es
+        → after a (cond b (estimate_at t s ∷ es) es) ≡ cond b (cond (agrees a (estimate_at t s)) (after (estimate_at t s) es) Split) (after a es)
+    go true es = after_one a (estimate_at t s) es
     go false es = refl
 
 -- those gathered that pass a test are the marked senders whose estimate does
 module _ (P : Estimate → Bool) (t : Tally) where
   abbrev Q : ℕ → Bool
-  Q u = isMarked t.marks u && P (estimateAt t u)
+  Q u = is_marked t.marks u && P (estimate_at t u)
 
-  passing-from : (s k : ℕ) → passing P (gatheredFrom t s k) + count s Q ≡ count (s + k) Q
-  unfolding gatheredFrom
-  passing-from s zero = rw add-zero (zero-add (count s Q))
-  passing-from s (suc k) =
-      go (isMarked t.marks s) refl ∙ passing-from (suc s) k ∙ ap (λ (x : ℕ). count x Q) (suc-add s k ∙ sym (add-suc s k))
+  passing_from : (s k : ℕ) → passing P (gathered_from t s k) + count s Q ≡ count (s + k) Q
+  unfolding gathered_from
+  passing_from s zero = rw add-zero (zero-add (count s Q))
+  passing_from s (suc k) =
+      go (is_marked t.marks s) refl ∙ passing_from (suc s) k ∙ ap (λ (x : ℕ). count x Q) (suc-add s k ∙ sym (add-suc s k))
     where
       later : List Estimate
-      later = gatheredFrom t (suc s) k
+      later = gathered_from t (suc s) k
 
-      go : (b : Bool) → isMarked t.marks s ≡ b → passing P (cond b (estimateAt t s ∷ later) later) + count s Q ≡ passing P later + count (suc s) Q
+      go : (b : Bool) → is_marked t.marks s ≡ b → passing P (cond b (estimate_at t s ∷ later) later) + count s Q ≡ passing P later + count (suc s) Q
       go false e = rw e
-      go true e = rw e (by (P (estimateAt t s)))
+      go true e = rw e (by (P (estimate_at t s)))
         where
           by : (c : Bool) → bump c (passing P later) + count s Q ≡ passing P later + bump c (count s Q)
           by true = omega arith
           by false = refl
 
-  pub passing-senders : passing P (gathered t) ≡ count senders Q
+  pub passing_senders : passing P (gathered t) ≡ count senders Q
   unfolding gathered
-  passing-senders = sym (add-zero (passing P (gatheredFrom t 0 senders))) ∙ passing-from 0 senders
+  passing_senders = sym (add-zero (passing P (gathered_from t 0 senders))) ∙ passing_from 0 senders
 
 -- those gathered are as many as the ones of the marks
-pub length-gathered : (t : Tally) → t.marks < 2 ^ senders → length (gathered t) ≡ ones t.marks
-length-gathered t h =
-    sym (passing-all (gathered t))
-    ∙ passing-senders (λ e. true) t
-    ∙ count-same senders (λ u. isMarked t.marks u && true) (isMarked t.marks) (λ u b. and-true (isMarked t.marks u))
-    ∙ sym (ones-senders t.marks h)
+pub length_gathered : (t : Tally) → t.marks < 2 ^ senders → length (gathered t) ≡ ones t.marks
+length_gathered t h =
+    sym (passing_all (gathered t))
+    ∙ passing_senders (λ e. true) t
+    ∙ count_same senders (λ u. is_marked t.marks u && true) (is_marked t.marks) (λ u b. and-true (is_marked t.marks u))
+    ∙ sym (ones_senders t.marks h)
 
 -- the holders of v, counted over unit numbers
-pub holders-senders : (v : ℕ) (t : Tally) → holders v (gathered t) ≡ count senders (λ u. hasValue v (held t u))
+pub holders_senders : (v : ℕ) (t : Tally) → holders v (gathered t) ≡ count senders (λ u. has_value v (held t u))
 unfolding holders held
-holders-senders v t =
-    passing-senders (hasValue v) t
-    ∙ count-same senders (λ u. isMarked t.marks u && hasValue v (estimateAt t u)) (λ u. hasValue v (cond (isMarked t.marks u) (estimateAt t u) Blank))
-    (λ u b. go (isMarked t.marks u) (estimateAt t u))
+holders_senders v t =
+    passing_senders (has_value v) t
+    ∙ count_same senders (λ u. is_marked t.marks u && has_value v (estimate_at t u)) (λ u. has_value v (cond (is_marked t.marks u) (estimate_at t u) Blank))
+    (λ u b. go (is_marked t.marks u) (estimate_at t u))
   where
-    go : (b : Bool) (e : Estimate) → (b && hasValue v e) ≡ hasValue v (cond b e Blank)
+    go : (b : Bool) (e : Estimate) → (b && has_value v e) ≡ has_value v (cond b e Blank)
     go true e = refl
     go false e = refl
 
 -- a sender that is marked has its estimate in its place, and the others keep theirs
-pub estimate-same-at : (t : Tally) (s : ℕ) (e : Estimate) → s < length t.cells → estimateAt (mark t s e) s ≡ e
+pub estimate_same_at : (t : Tally) (s : ℕ) (e : Estimate) → s < length t.cells → estimate_at (mark t s e) s ≡ e
 unfolding mark
-estimate-same-at t s e h = ap (λ (c : Cell). c.estimate) (get_or-set_same t.cells s (record { estimate = e }) blankCell h)
+estimate_same_at t s e h = ap (λ (c : Cell). c.estimate) (get_or-set_same t.cells s (record { estimate = e }) blank_cell h)
 
-pub estimate-other-at : (t : Tally) (s u : ℕ) (e : Estimate) → (u ≡ s → ⊥) → estimateAt (mark t s e) u ≡ estimateAt t u
+pub estimate_other_at : (t : Tally) (s u : ℕ) (e : Estimate) → (u ≡ s → ⊥) → estimate_at (mark t s e) u ≡ estimate_at t u
 unfolding mark
-estimate-other-at t s u e n = ap (λ (c : Cell). c.estimate) (get_or-set_other t.cells s u (record { estimate = e }) blankCell n)
+estimate_other_at t s u e n = ap (λ (c : Cell). c.estimate) (get_or-set_other t.cells s u (record { estimate = e }) blank_cell n)
 
 -- and so it holds it
-pub held-same : (t : Tally) (s : ℕ) (e : Estimate) → s < length t.cells → held (mark t s e) s ≡ e
+pub held_same : (t : Tally) (s : ℕ) (e : Estimate) → s < length t.cells → held (mark t s e) s ≡ e
 unfolding held mark
-held-same t s e h = rw (mark-same t.marks s) (estimate-same-at t s e h)
+held_same t s e h = rw (mark_same t.marks s) (estimate_same_at t s e h)
 
-pub held-other : (t : Tally) (s u : ℕ) (e : Estimate) → (u ≡ s → ⊥) → held (mark t s e) u ≡ held t u
+pub held_other : (t : Tally) (s u : ℕ) (e : Estimate) → (u ≡ s → ⊥) → held (mark t s e) u ≡ held t u
 unfolding held mark
-held-other t s u e n =
-    rw (mark-other t.marks s u n) (ap (λ (x : Estimate). cond (isMarked t.marks u) x Blank) (estimate-other-at t s u e n))
+held_other t s u e n =
+    rw (mark_other t.marks s u n) (ap (λ (x : Estimate). cond (is_marked t.marks u) x Blank) (estimate_other_at t s u e n))
 
 -- without marks nothing is held
-pub held-unmarked : (t : Tally) → t.marks ≡ 0 → (s : ℕ) → held t s ≡ Blank
+pub held_unmarked : (t : Tally) → t.marks ≡ 0 → (s : ℕ) → held t s ≡ Blank
 unfolding held
-held-unmarked t e s = rw (e, unmarked-none s)
+held_unmarked t e s = rw (e, unmarked_none s)
 
 -- ---- tallies in which only units below n are marked
 
 -- the ones of the marks are the marked units below n
-pub ones-units : (n marks : ℕ) → n ≤ senders → marks < 2 ^ senders → OnlyBelow n marks → ones marks ≡ count n (isMarked marks)
-ones-units n marks le h only = ones-senders marks h ∙ count-below n senders (isMarked marks) le only
+pub ones_units : (n marks : ℕ) → n ≤ senders → marks < 2 ^ senders → OnlyBelow n marks → ones marks ≡ count n (is_marked marks)
+ones_units n marks le h only = ones_senders marks h ∙ count_below n senders (is_marked marks) le only
 
 -- two tallies of a quorum each share a sender
-pub tallies-overlap : (g : Engine) (n a b : ℕ) → n ≤ senders → a < 2 ^ senders → b < 2 ^ senders → OnlyBelow n a → OnlyBelow n b
-    → quorumOf g n ≤ ones a → quorumOf g n ≤ ones b → Both n (isMarked a) (isMarked b)
-tallies-overlap g n a b le ha hb oa ob qa qb =
-    quorums-overlap g n (isMarked a) (isMarked b) (omega (arith, ones-units n a le ha oa)) (omega (arith, ones-units n b le hb ob))
+pub tallies_overlap : (g : Engine) (n a b : ℕ) → n ≤ senders → a < 2 ^ senders → b < 2 ^ senders → OnlyBelow n a → OnlyBelow n b
+    → quorum_of g n ≤ ones a → quorum_of g n ≤ ones b → Both n (is_marked a) (is_marked b)
+tallies_overlap g n a b le ha hb oa ob qa qb =
+    quorums_overlap g n (is_marked a) (is_marked b) (omega (arith, ones_units n a le ha oa)) (omega (arith, ones_units n b le hb ob))
 
 -- ---- what the types say of a tally is kept
 
-pub typed-empty : Typed noMarks
-unfolding noMarks
-typed-empty = record { marks = pow_pos senders; cells = refl }
+pub typed_empty : Typed no_marks
+unfolding no_marks
+typed_empty = record { marks = pow_pos senders; cells = refl }
 
-pub typed-mark : (t : Tally) (s : ℕ) (e : Estimate) → Typed t → s < senders → Typed (mark t s e)
+pub typed_mark : (t : Tally) (s : ℕ) (e : Estimate) → Typed t → s < senders → Typed (mark t s e)
 unfolding mark
-typed-mark t s e typed b =
+typed_mark t s e typed b =
     record {
       marks = or_lt senders t.marks (2 ^ s) typed.marks (pow-lt b);
       cells = length-set t.cells s (record { estimate = e }) ∙ typed.cells;

@@ -12,13 +12,13 @@ passing P [] = zero
 passing P (x ∷ xs) = bump (P x) (passing P xs)
 
 -- the unit numbers below n
-abbrev pub upTo : ℕ → List ℕ
-upTo zero = []
-upTo (suc k) = k ∷ upTo k
+abbrev pub up_to : ℕ → List ℕ
+up_to zero = []
+up_to (suc k) = k ∷ up_to k
 
 -- how many units below n pass the test P
 abbrev pub count : ℕ → (ℕ → Bool) → ℕ
-count n P = passing P (upTo n)
+count n P = passing P (up_to n)
 
 -- a unit below n with both
 pub record Both (n : ℕ) (P Q : ℕ → Bool) : Type 0 where

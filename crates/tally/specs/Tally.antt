@@ -13,37 +13,37 @@ pub record Typed (t : Tally) : Type 0 where
   pub cells : length t.cells ≡ senders
 
 -- a sender mark (the scope paper's term) is one bit, value 2 to the power of the unit
-abbrev pub isMarked : ℕ → ℕ → Bool
-isMarked marks s = eqb (marks / 2 ^ s % 2) 1
+abbrev pub is_marked : ℕ → ℕ → Bool
+is_marked marks s = eqb (marks / 2 ^ s % 2) 1
 
-abbrev pub blankCell : Cell
-blankCell = record { estimate = Blank }
+abbrev pub blank_cell : Cell
+blank_cell = record { estimate = Blank }
 
 -- the estimate in a sender's cell
-abbrev pub estimateAt : Tally → ℕ → Estimate
-estimateAt t s = (get_or t.cells s blankCell).estimate
+abbrev pub estimate_at : Tally → ℕ → Estimate
+estimate_at t s = (get_or t.cells s blank_cell).estimate
 
 -- what a sender is marked with, blank where it is not marked
 unfoldable pub held : Tally → ℕ → Estimate
-held t s = cond (isMarked t.marks s) (estimateAt t s) Blank
+held t s = cond (is_marked t.marks s) (estimate_at t s) Blank
 
 -- no sender is marked, and every cell is blank
-unfoldable pub noMarks : Tally
-noMarks = record { marks = 0; cells = replicate senders blankCell }
+unfoldable pub no_marks : Tally
+no_marks = record { marks = 0; cells = replicate senders blank_cell }
 
 -- the sender s is marked, with the estimate e
 unfoldable pub mark : Tally → ℕ → Estimate → Tally
 mark t s e = record { marks = bit_or t.marks (2 ^ s); cells = set t.cells s (record { estimate = e }) }
 
 -- the estimates of the marked among the k senders from s on, in rising order of sender
-unfoldable pub gatheredFrom : Tally → ℕ → ℕ → List Estimate
-gatheredFrom t s zero = []
-gatheredFrom t s (suc k) = cond (isMarked t.marks s) (estimateAt t s ∷ gatheredFrom t (suc s) k) (gatheredFrom t (suc s) k)
+unfoldable pub gathered_from : Tally → ℕ → ℕ → List Estimate
+gathered_from t s zero = []
+gathered_from t s (suc k) = cond (is_marked t.marks s) (estimate_at t s ∷ gathered_from t (suc s) k) (gathered_from t (suc s) k)
 
 -- of all senders
 unfoldable pub gathered : Tally → List Estimate
-gathered t = gatheredFrom t 0 senders
+gathered t = gathered_from t 0 senders
 
 -- no unit from n on is marked
 abbrev pub OnlyBelow : ℕ → ℕ → Type 0
-OnlyBelow n marks = (u : ℕ) → n ≤ u → u < senders → isMarked marks u ≡ false
+OnlyBelow n marks = (u : ℕ) → n ≤ u → u < senders → is_marked marks u ≡ false

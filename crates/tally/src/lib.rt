@@ -7,10 +7,10 @@ ghost use Rattle.std.specs.Prelude.{◌≡◌, ◌<◌, ◌≤◌, ◌-◌, ◌^
 ghost use Rattle.std.specs.Int.Bits.{bit_or};
 ghost use Rattle.std.specs.Int.Count.{ones};
 ghost use Rattle.tally.specs.Limits.{senders};
-ghost use Rattle.tally.specs.Refusal.{numberOf};
-ghost use Rattle.tally.specs.Quorum.{quorumOf, majorityOf};
-ghost use Rattle.tally.specs.Tally.{isMarked, noMarks, mark, gathered, gatheredFrom};
-ghost use Rattle.tally.specs.Gathered.{anyMileage, hasValue, holders, common, lowest, leads, firstPassing, majority};
+ghost use Rattle.tally.specs.Refusal.{number_of};
+ghost use Rattle.tally.specs.Quorum.{quorum_of, majority_of};
+ghost use Rattle.tally.specs.Tally.{is_marked, no_marks, mark, gathered, gathered_from};
+ghost use Rattle.tally.specs.Gathered.{any_mileage, has_value, holders, common, lowest, leads, first_passing, majority};
 ghost use Rattle.tally.specs.InnerGathered.{agrees};
 
 // The engines of the scope paper: B after B*-Consensus, R after R*-Consensus.
@@ -48,7 +48,7 @@ pub enum Refusal {
 
 // The number that a caller is told.
 pub fn number(r: Refusal) -> u32
-    ensures { result ≡ numberOf r }
+    ensures { result ≡ number_of r }
 {
     match r {
         Refusal::None => 0,
@@ -83,7 +83,7 @@ pub struct Tally {
 
 // How many CHECKs or SECONDs are a quorum.
 pub fn quorum(engine: Engine, n: u8) -> u32
-    ensures { result ≡ quorumOf engine n }
+    ensures { result ≡ quorum_of engine n }
 {
     let k = n as u32;
     match engine {
@@ -94,7 +94,7 @@ pub fn quorum(engine: Engine, n: u8) -> u32
 
 // How many of R's quorum are a majority.
 pub fn majority_size(n: u8) -> u32
-    ensures { result ≡ majorityOf n }
+    ensures { result ≡ majority_of n }
 {
     quorum(Engine::R, n) / 2 + 1
 }
@@ -102,7 +102,7 @@ pub fn majority_size(n: u8) -> u32
 // Has this sender a mark?
 pub fn is_marked(marks: u16, sender: u8) -> bool
     requires { sender < senders }
-    ensures { result ≡ isMarked marks sender }
+    ensures { result ≡ is_marked marks sender }
 {
     (marks >> sender) % 2 == 1
 }
@@ -117,7 +117,7 @@ fn with_mark(marks: u16, sender: u8) -> u16
 
 // Is it a mileage, whichever?
 fn any_mileage(e: Estimate) -> bool
-    ensures { result ≡ anyMileage e }
+    ensures { result ≡ any_mileage e }
 {
     match e {
         Estimate::Blank => false,
@@ -128,7 +128,7 @@ fn any_mileage(e: Estimate) -> bool
 
 // Is it this mileage?
 pub fn has_value(e: Estimate, v: u32) -> bool
-    ensures { result ≡ hasValue v e }
+    ensures { result ≡ has_value v e }
 {
     match e {
         Estimate::Blank => false,
@@ -154,9 +154,9 @@ pub const NO_CELLS: [Cell; limits::SENDERS] = [Cell {
 }; limits::SENDERS];
 
 impl Tally {
-    #[tactic(auto, unfolding(crate::specs::Tally::noMarks))]
+    #[tactic(auto, unfolding(crate::specs::Tally::no_marks))]
     pub fn empty() -> Tally
-        ensures { result ≡ noMarks }
+        ensures { result ≡ no_marks }
     {
         Tally {
             marks: 0,
@@ -261,7 +261,7 @@ impl Tally {
 // The first estimate, from a unit number on, that leads: a recursion over unit numbers.
 fn leader_from(t: &Tally, need: u32, sender: u8) -> Estimate
     requires { sender ≤ senders }
-    ensures { result ≡ firstPassing (leads need (gathered t.now)) (gatheredFrom t.now sender (senders - sender)) }
+    ensures { result ≡ first_passing (leads need (gathered t.now)) (gathered_from t.now sender (senders - sender)) }
 {
     if sender == limits::MAX_UNITS {
         return Estimate::Blank;

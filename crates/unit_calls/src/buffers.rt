@@ -1,33 +1,33 @@
 // What the calls of a unit test before they read it, and how they store its answer.
 ghost use Rattle.std.specs.Prelude.{[], ◌≡◌};
-ghost use Rattle.tally.specs.Limits.{today, blankCode};
-ghost use Rattle.calls.specs.Calls.{called, unitLengths};
-ghost use Rattle.calls.specs.InnerCalls.{settingsNarrow, storedMessage, storedProposal, storedAnswer};
+ghost use Rattle.tally.specs.Limits.{today, blank_code};
+ghost use Rattle.calls.specs.Calls.{called, unit_lengths};
+ghost use Rattle.calls.specs.InnerCalls.{settings_narrow, stored_message, stored_proposal, stored_answer};
 
 use consensus::Answer;
 use contents::Message;
 use tally::limits;
 
 // Do the numbers of a start fit their types?
-#[tactic(auto, unfolding(calls::specs::InnerCalls::settingsNarrow))]
+#[tactic(auto, unfolding(calls::specs::InnerCalls::settings_narrow))]
 pub(crate) fn settings_narrow(engine: u32, n: u32, unit: u32, entry: u32) -> bool
-    ensures { result ≡ settingsNarrow engine n unit entry }
+    ensures { result ≡ settings_narrow engine n unit entry }
 {
     (engine < 256) & (n < 256) & (unit < 256) & (entry < 65536)
 }
 
 // Is the length of a unit's log or image wrong?
-#[tactic(auto, unfolding(calls::specs::Calls::unitLengths))]
+#[tactic(auto, unfolding(calls::specs::Calls::unit_lengths))]
 pub(crate) fn wrong_lengths(log: &[u8], image: &[u8]) -> bool
-    ensures { result ≡ unitLengths today log.now image.now }
+    ensures { result ≡ unit_lengths today log.now image.now }
 {
     (log.len() != limits::LOG_SIZE) | (image.len() != limits::IMAGE_SIZE)
 }
 
 // Stores a message in a cleared buffer, which holds the empty message already.
-#[tactic(auto, unfolding(calls::specs::InnerCalls::storedMessage))]
+#[tactic(auto, unfolding(calls::specs::InnerCalls::stored_message))]
 fn put_message(m: Message, out: &mut [u8])
-    ensures { out.new ≡ storedMessage m out.old }
+    ensures { out.new ≡ stored_message m out.old }
 {
     let kind = m.kind;
     if rules::messages::is_empty(kind) {
@@ -37,10 +37,10 @@ fn put_message(m: Message, out: &mut [u8])
 }
 
 // Stores what a proposal answers, unless it refuses: no log, and of the image its state alone.
-#[tactic(auto, unfolding(calls::specs::InnerCalls::storedProposal))]
+#[tactic(auto, unfolding(calls::specs::InnerCalls::stored_proposal))]
 pub(crate) fn put_proposal(a: Answer, image: &mut [u8], out: &mut [u8]) -> u32
-    ensures { called result [] image.new out.new blankCode
-        ≡ storedProposal a image.old out.old }
+    ensures { called result [] image.new out.new blank_code
+        ≡ stored_proposal a image.old out.old }
 {
     let refusal = a.refusal;
     let number = tally::number(refusal);
@@ -52,7 +52,7 @@ pub(crate) fn put_proposal(a: Answer, image: &mut [u8], out: &mut [u8]) -> u32
 }
 
 // Stores what a delivery answers, unless it refuses.
-#[tactic(auto, unfolding(calls::specs::InnerCalls::storedAnswer))]
+#[tactic(auto, unfolding(calls::specs::InnerCalls::stored_answer))]
 pub(crate) fn put_answer(
     a: Answer,
     log: &mut [u8],
@@ -61,7 +61,7 @@ pub(crate) fn put_answer(
     decision: &mut u32,
 ) -> u32
     ensures { called result log.new image.new out.new decision.new
-        ≡ storedAnswer a log.old image.old out.old decision.old }
+        ≡ stored_answer a log.old image.old out.old decision.old }
 {
     let refusal = a.refusal;
     let number = tally::number(refusal);

@@ -4,8 +4,8 @@
 mod buffers;
 
 ghost use Rattle.std.specs.Prelude.{◌≡◌, []};
-ghost use Rattle.tally.specs.Limits.{today, blankCode};
-ghost use Rattle.calls.specs.Calls.{called, startCall, keyOnCall, proposeCall, deliverCall};
+ghost use Rattle.tally.specs.Limits.{today, blank_code};
+ghost use Rattle.calls.specs.Calls.{called, start_call, key_on_call, propose_call, deliver_call};
 
 use consensus::Unit;
 use contents::Settings;
@@ -13,10 +13,10 @@ use formats::{EngineRead, LogRead, MessageRead, StateRead};
 use tally::{Refusal, limits};
 
 // Starts a unit: writes its log and its image, and reads neither. The engine is its letter's number.
-#[tactic(auto, unfolding(calls::specs::InnerCalls::settingsNarrow))]
+#[tactic(auto, unfolding(calls::specs::InnerCalls::settings_narrow))]
 pub fn start(engine: u32, n: u32, unit: u32, entry: u32, log: &mut [u8], image: &mut [u8]) -> u32
-    ensures { called result log.new image.new [] blankCode
-        ≡ startCall today engine n unit entry log.old image.old }
+    ensures { called result log.new image.new [] blank_code
+        ≡ start_call today engine n unit entry log.old image.old }
 {
     if buffers::wrong_lengths(log, image) {
         return tally::number(Refusal::Length);
@@ -44,7 +44,7 @@ pub fn start(engine: u32, n: u32, unit: u32, entry: u32, log: &mut [u8], image: 
 
 // Key-on: writes the image that the log gives, and does not read what it held.
 pub fn key_on(log: &[u8], image: &mut [u8]) -> u32
-    ensures { called result log.now image.new [] blankCode ≡ keyOnCall today log.now image.old }
+    ensures { called result log.now image.new [] blank_code ≡ key_on_call today log.now image.old }
 {
     if buffers::wrong_lengths(log, image) {
         return tally::number(Refusal::Length);
@@ -57,10 +57,10 @@ pub fn key_on(log: &[u8], image: &mut [u8]) -> u32
 }
 
 // Proposes a mileage: writes the image and a message, and no log.
-#[tactic(auto, unfolding(calls::specs::Calls::proposeCall, calls::specs::Calls::proposeCallConditions, consensus::specs::Conditions::firstOf))]
+#[tactic(auto, unfolding(calls::specs::Calls::propose_call, calls::specs::Calls::propose_call_conditions, consensus::specs::Conditions::first_refusal))]
 pub fn propose(log: &[u8], image: &mut [u8], mileage: u32, out: &mut [u8]) -> u32
-    ensures { called result log.now image.new out.new blankCode
-        ≡ proposeCall today log.now image.old mileage out.old }
+    ensures { called result log.now image.new out.new blank_code
+        ≡ propose_call today log.now image.old mileage out.old }
 {
     let wrong = buffers::wrong_lengths(log, image) | (out.len() != limits::MESSAGE_SIZE);
     message_codec::clear(out);
@@ -83,7 +83,7 @@ pub fn propose(log: &[u8], image: &mut [u8], mileage: u32, out: &mut [u8]) -> u3
 }
 
 // Delivers a message: where nothing is refused, writes log, image and message. The decision is always written.
-#[tactic(auto, unfolding(calls::specs::Calls::deliverCall, calls::specs::Calls::deliverCallConditions, consensus::specs::Conditions::firstOf))]
+#[tactic(auto, unfolding(calls::specs::Calls::deliver_call, calls::specs::Calls::deliver_call_conditions, consensus::specs::Conditions::first_refusal))]
 pub fn deliver(
     log: &mut [u8],
     image: &mut [u8],
@@ -92,7 +92,7 @@ pub fn deliver(
     decision: &mut u32,
 ) -> u32
     ensures { called result log.new image.new out.new decision.new
-        ≡ deliverCall today log.old image.old message.now out.old }
+        ≡ deliver_call today log.old image.old message.now out.old }
 {
     *decision = limits::BLANK;
     let wrong = buffers::wrong_lengths(log, image)

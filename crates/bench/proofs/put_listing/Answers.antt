@@ -1,29 +1,29 @@
 -- Each way a script is read, and its listing. Assumes nothing.
 use Rattle.std.proofs.Common.{sym, ◌∙◌}
 use Rattle.tally.specs.Limits.{today}
-use Rattle.script.proofs.HeaderLines.{header-range}
-use Rattle.bench.proofs.Whole.{listing-long, listing-none, listing-bad, listing-read}
+use Rattle.script.proofs.HeaderLines.{header_range}
+use Rattle.bench.proofs.Whole.{listing_long, listing_none, listing_bad, listing_read}
 use Rattle.bench.proofs.put_listing.Goals as goal
 
 pub returns-then-script-gt-SCRIPT_SIZE : goal.returns-then-script-gt-SCRIPT_SIZE
-returns-then-script-gt-SCRIPT_SIZE c = rw (listing-long today c.args.script.now c.if-script-gt-SCRIPT_SIZE.true) c.put_malformed.ensures
+returns-then-script-gt-SCRIPT_SIZE c = rw (listing_long today c.args.script.now c.if-script-gt-SCRIPT_SIZE.true) c.put_malformed.ensures
 
 pub returns-then-script-k : goal.returns-then-script-k
 returns-then-script-k c =
-    rw (listing-none today c.args.script.now c.if-script-gt-SCRIPT_SIZE.false c.before-k.result c.before-k.ensures c.if-script-k.true)
+    rw (listing_none today c.args.script.now c.if-script-gt-SCRIPT_SIZE.false c.before-k.result c.before-k.ensures c.if-script-k.true)
     c.put_malformed-then-script-k.ensures
 
 pub returns-in_default : goal.returns-in_default
 returns-in_default c =
     let bad = sym c.in_default.is ∙ c.header.ensures in
-    rw (listing-bad today c.args.script.now c.if-script-gt-SCRIPT_SIZE.false c.before-k.result c.before-k.ensures c.if-script-k.false bad)
+    rw (listing_bad today c.args.script.now c.if-script-gt-SCRIPT_SIZE.false c.before-k.result c.before-k.ensures c.if-script-k.false bad)
     c.put_malformed-in_default.ensures
 
 pub put_played-requires-clause-h_value : goal.put_played-requires-clause-h_value
-put_played-requires-clause-h_value c = header-range _ _ (sym c.header.ensures ∙ c.in-Is.is)
+put_played-requires-clause-h_value c = header_range _ _ (sym c.header.ensures ∙ c.in-Is.is)
 
 pub returns : goal.returns
 returns c =
     let is = sym c.in-Is.is ∙ c.header.ensures in
-    rw (listing-read today c.args.script.now c.if-script-gt-SCRIPT_SIZE.false c.before-k.result c.before-k.ensures c.if-script-k.false _ is)
+    rw (listing_read today c.args.script.now c.if-script-gt-SCRIPT_SIZE.false c.before-k.result c.before-k.ensures c.if-script-k.false _ is)
     c.put_played.ensures

@@ -1,12 +1,12 @@
 -- Key-on answers by what the row's log is read as. Assumes nothing.
 use Rattle.std.proofs.Common.{sym, ◌∙◌}
 use Rattle.tally.specs.Limits.{today}
-use Rattle.cards.proofs.Steps.{key-on-step}
+use Rattle.cards.proofs.Steps.{key_on_step}
 use Rattle.card_calls.proofs.key_on.Goals as goal
 
 pub returns-in-Refused : goal.returns-in-Refused
-returns-in-Refused c = rw (key-on-step today c.args.c.now c.args.r.now, sym c.own_log.ensures ∙ c.in-Refused.is, c.tells.ensures)
+returns-in-Refused c = rw (key_on_step today c.args.c.now c.args.r.now, sym c.own_log.ensures ∙ c.in-Refused.is, c.tells.ensures)
 
 pub returns-in-Read : goal.returns-in-Read
 returns-in-Read c =
-    rw (key-on-step today c.args.c.now c.args.r.now, sym c.own_log.ensures ∙ c.in-Read.is, c.tells-in-Read.ensures, c.unmarked.ensures)
+    rw (key_on_step today c.args.c.now c.args.r.now, sym c.own_log.ensures ∙ c.in-Read.is, c.tells-in-Read.ensures, c.unmarked.ensures)

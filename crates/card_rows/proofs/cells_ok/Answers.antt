@@ -1,22 +1,22 @@
 -- Without marks the blanks are the whole test; else the loop tests each place. Assumes nothing.
 use Rattle.std.proofs.Common.{◌≡◌, sym, ap, ◌∙◌, arith, rules}
 use Rattle.tally.specs.Limits.{today, senders}
-use Rattle.contents.specs.Estimates.{isBlank}
-use Rattle.contents.specs.Images.{cellsOk}
-use Rattle.formats.proofs.Marked.{blank-places}
-use Rattle.cards.specs.Rows.{rowTally}
-use Rattle.cards.proofs.Steps.{row-estimate}
+use Rattle.contents.specs.Estimates.{is_blank}
+use Rattle.contents.specs.Images.{cells_ok}
+use Rattle.formats.proofs.Marked.{blank_places}
+use Rattle.cards.specs.Rows.{row_tally}
+use Rattle.cards.proofs.Steps.{row_estimate}
 use Rattle.card_rows.proofs.cells_ok.Goals as goal
 
 pub returns-then-marks-eq0 : goal.returns-then-marks-eq0
 returns-then-marks-eq0 c =
     let a = c.args in
     c.blanks.ensures
-    ∙ blank-places today a.split a.n (rowTally a.f.now) _ c.if-marks-eq0.true
-    (λ u h. ap isBlank (sym (row-estimate a.f.now u (search rules))))
+    ∙ blank_places today a.split a.n (row_tally a.f.now) _ c.if-marks-eq0.true
+    (λ u h. ap is_blank (sym (row_estimate a.f.now u (search rules))))
 
 pub returns : goal.returns
-unfolding cellsOk
+unfolding cells_ok
 returns c =
     let e : c.loop-k.k ≡ senders = omega arith in
     rw e at c.loop-k.invariant.1

@@ -3,12 +3,12 @@ use Rattle.std.proofs.Common.{◌≡◌, ◌+◌, ◌*◌, ◌-◌, map, length}
 use Rattle.std.proofs.lemmas.List.Edits.{sets}
 use Rattle.tally.specs.Limits.{senders}
 use Rattle.tally.specs.declared.Tally.{Tally}
-use Rattle.formats.specs.Images.{cellOf, cellWidths}
-use Rattle.formats.specs.InnerImages.{heldFrom}
+use Rattle.formats.specs.Images.{cell_of, cell_widths}
+use Rattle.formats.specs.InnerImages.{held_from}
 use Rattle.formats.specs.Numbers.{unpack}
 use Rattle.image_codec.proofs.cells_at.Given as goal
 
 abbrev pub invariant-loop-k : goal.invariant-loop-k
 invariant-loop-k l =
-    let t : Tally = record { marks = l.marks; cells = map cellOf (unpack l.at cellWidths l.s) } in
-    (l.from ≡ l.at + 4 * l.k) × ((length l.cells ≡ senders) × (sets l.cells l.k (heldFrom t l.k (senders - l.k)) ≡ heldFrom t 0 senders))
+    let t : Tally = record { marks = l.marks; cells = map cell_of (unpack l.at cell_widths l.s) } in
+    (l.from ≡ l.at + 4 * l.k) × ((length l.cells ≡ senders) × (sets l.cells l.k (held_from t l.k (senders - l.k)) ≡ held_from t 0 senders))

@@ -2,13 +2,13 @@
 use Rattle.std.proofs.Common.{arith}
 use Rattle.tally.specs.Limits.{senders}
 use Rattle.tally.specs.Tally.{held}
-use Rattle.formats.proofs.Marked.{held-step}
-use Rattle.formats.proofs.Packed.{replicate-step}
+use Rattle.formats.proofs.Marked.{held_step}
+use Rattle.formats.proofs.Packed.{replicate_step}
 use Rattle.image_codec.proofs.put_cells.Goals as goal
 
 pub loop-k-preserved : goal.loop-k-preserved
 unfolding held
 loop-k-preserved c =
     let l = c.loop-k in
-    let step = rw (replicate-step senders l.k 4 c.loop-k-test.true, held-step c.args.t l.k c.loop-k-test.true) at l.invariant.1.1 in
+    let step = rw (replicate_step senders l.k 4 c.loop-k-test.true, held_step c.args.t l.k c.loop-k-test.true) at l.invariant.1.1 in
     (omega arith, (omega arith, rw (c.put32.ensures, c.held_code.ensures, c.is_marked.ensures) step))

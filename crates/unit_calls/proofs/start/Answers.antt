@@ -2,28 +2,28 @@
 use Rattle.std.proofs.Common.{sym, ◌∙◌}
 use Rattle.tally.specs.Limits.{today}
 use Rattle.formats.specs.Messages.{cleared}
-use Rattle.consensus.specs.Conditions.{firstOf}
+use Rattle.consensus.specs.Conditions.{first_refusal}
 use Rattle.consensus.specs.Step.{fresh}
-use Rattle.consensus.specs.Units.{atLog}
-use Rattle.calls.specs.Calls.{badSettings, startCallConditions, startCall}
-use Rattle.calls.proofs.Entries.{settings-too-large, log-stored, image-stored, unit-sizes}
+use Rattle.consensus.specs.Units.{at_log}
+use Rattle.calls.specs.Calls.{bad_settings, start_call_conditions, start_call}
+use Rattle.calls.proofs.Entries.{settings_too_large, log_stored, image_stored, unit_sizes}
 use Rattle.unit_calls.proofs.start.Goals as goal
 
 pub returns-then-wrong_lengths : goal.returns-then-wrong_lengths
-unfolding startCall startCallConditions firstOf cleared
+unfolding start_call start_call_conditions first_refusal cleared
 returns-then-wrong_lengths c = rw (sym c.wrong_lengths.ensures ∙ c.if-wrong_lengths.true, c.number.ensures)
 
 pub returns-then-not-settings_narrow : goal.returns-then-not-settings_narrow
-unfolding startCall startCallConditions firstOf cleared
+unfolding start_call start_call_conditions first_refusal cleared
 returns-then-not-settings_narrow c =
     rw (
       sym c.wrong_lengths.ensures ∙ c.if-wrong_lengths.false,
-      settings-too-large _ _ _ _ (sym c.settings_narrow.ensures ∙ c.if-not-settings_narrow.true),
+      settings_too_large _ _ _ _ (sym c.settings_narrow.ensures ∙ c.if-not-settings_narrow.true),
       c.number-then-not-settings_narrow.ensures,
     )
 
 pub returns-in_default : goal.returns-in_default
-unfolding startCall startCallConditions firstOf badSettings cleared
+unfolding start_call start_call_conditions first_refusal bad_settings cleared
 returns-in_default c =
     rw (
       sym c.wrong_lengths.ensures ∙ c.if-wrong_lengths.false,
@@ -32,7 +32,7 @@ returns-in_default c =
     )
 
 pub returns-then-not-settings_ok : goal.returns-then-not-settings_ok
-unfolding startCall startCallConditions firstOf badSettings cleared
+unfolding start_call start_call_conditions first_refusal bad_settings cleared
 returns-then-not-settings_ok c =
     rw (
       sym c.wrong_lengths.ensures ∙ c.if-wrong_lengths.false,
@@ -42,7 +42,7 @@ returns-then-not-settings_ok c =
     )
 
 pub returns : goal.returns
-unfolding startCall startCallConditions firstOf badSettings fresh atLog
+unfolding start_call start_call_conditions first_refusal bad_settings fresh at_log
 returns c =
     let right = sym c.wrong_lengths.ensures ∙ c.if-wrong_lengths.false in
     rw (
@@ -52,8 +52,8 @@ returns c =
       c.number-2.ensures,
       c.store_log.ensures,
       c.store_unmarked.ensures,
-      log-stored today _ c.args.log.now (unit-sizes today _ _ right).0,
-      image-stored today _ c.args.image.now (unit-sizes today _ _ right).1,
+      log_stored today _ c.args.log.now (unit_sizes today _ _ right).0,
+      image_stored today _ c.args.image.now (unit_sizes today _ _ right).1,
       c.log-l.ensures,
       c.fresh.ensures,
     )

@@ -1,23 +1,23 @@
 -- The first condition that holds refuses; where none does, it is the step. Assumes nothing.
 use Rattle.std.proofs.Common.{arith}
 use Rattle.std.proofs.lemmas.Grind.{common_steps}
-use Rattle.consensus.specs.Conditions.{firstOf}
-use Rattle.consensus.specs.InnerMethods.{deliverRead}
-use Rattle.consensus.specs.Methods.{deliver, deliverConditions, unless}
+use Rattle.consensus.specs.Conditions.{first_refusal}
+use Rattle.consensus.specs.InnerMethods.{deliver_read}
+use Rattle.consensus.specs.Methods.{deliver, deliver_conditions, unless}
 use Rattle.consensus.proofs.Unit.take.Goals as goal
 
 pub returns-then-not-well_formed : goal.returns-then-not-well_formed
-unfolding deliver deliverConditions unless firstOf deliverRead
+unfolding deliver deliver_conditions unless first_refusal deliver_read
 returns-then-not-well_formed c = grind (arith, common_steps)
 
 pub returns-then-not-is_up : goal.returns-then-not-is_up
-unfolding deliver deliverConditions unless firstOf deliverRead
+unfolding deliver deliver_conditions unless first_refusal deliver_read
 returns-then-not-is_up c = grind (arith, common_steps)
 
 pub returns-then-for_other : goal.returns-then-for_other
-unfolding deliver deliverConditions unless firstOf deliverRead
+unfolding deliver deliver_conditions unless first_refusal deliver_read
 returns-then-for_other c = grind (arith, common_steps)
 
 pub returns : goal.returns
-unfolding deliver deliverConditions unless firstOf deliverRead
+unfolding deliver deliver_conditions unless first_refusal deliver_read
 returns c = grind (arith, common_steps)
