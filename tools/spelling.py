@@ -17,12 +17,12 @@ import sys
 # A word of antt ends at these signs.
 WORD = re.compile(r"[^\s(){}.;,@\"«»]+")
 COMMENT = re.compile(r"(?:(?<=[\s(){}.;,@\"«»])|^)--[^\n]*", re.M)
-CAMEL = re.compile(r"[a-z]\w*?[a-z0-9][A-Z]\w*'*")
+CAMEL = re.compile(r"[a-z](\w*?[a-z0-9])?[A-Z]\w*'*")
 DASHED = re.compile(r"[a-z]['\w]*(-['\w]+)+")
 USE = re.compile(r"\buse ([^\s;{]+)\.\{([^}]*)\}")
 BELOW = re.compile(r"([A-Z][^\s(){}.;,@\"«»]*)\.([^\s(){}.;,@\"«»]+)")
 SPAN = re.compile(r"`[^`\n]+`")
-OF_FUNCTION = re.compile(r"/(Answers|Invariants|Proof)\.antt$")
+OF_FUNCTION = re.compile(r"/proofs/.+/(Answers|Invariants|Proof)\.antt$")
 MADE = ("invariant-", "decreases-")
 
 # `first_of` is a word of the tactics; `all_hold` is of estimates, and another thing than that all worked cases hold.
@@ -86,6 +86,8 @@ def table_of(texts, own):
                     found.add(word)
                 elif not of_function:
                     plain.add(word)
+    if not found:
+        return {}
     camel = {snake(word) for word in found if "-" not in word}
     table = {word: snake(word) + ("_lem" if "-" in word and snake(word) in camel else "") for word in found}
     table.update({law: law + "_lem" for law, definition in TURNED.items() if definition in found and law in plain})
@@ -124,12 +126,17 @@ def rt(text, table):
 
 
 def edit(text, table):
+    """The kit's script turns no edit: names that it turned elsewhere are turned here."""
     out, of = [], ""
+
+    def turn(m):
+        return table.get(m[0]) or (snake(m[0]) if CAMEL.fullmatch(m[0]) else m[0])
+
     for line in text.splitlines(keepends=True):
         if line.startswith("file:"):
             of = line.strip()
         if line.startswith(("old:", "new:")) and of.endswith(".antt"):
-            line = line[:4] + WORD.sub(lambda m: table.get(m[0], m[0]), line[4:])
+            line = line[:4] + WORD.sub(turn, line[4:])
         else:
             line = camel_alone(line, table)
         out.append(line)

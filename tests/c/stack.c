@@ -112,11 +112,16 @@ int main(int argc, char **argv)
     struct call start = new_call(START), key_on = new_call(KEY_ON);
     bool within = argc == KINDS + 1;
 
-    memcpy(start.given, (const uint32_t[]){'R', 16, 15, 7}, sizeof start.given);
+    memcpy(start.given, (const uint32_t[]){'R', 16, 15, 9999}, sizeof start.given);
+    log_words("R 16 15 9999 9999 - 0 -", key_on.bytes[LOG]);
+    baseline = used(NOTHING_AT_ALL, &start);
+    measure(START, &start);
+    measure(KEY_ON, &key_on);
+    /* on a card the entry is the row's number */
+    start.given[3] = 7;
     image_words("R 16 15 7 0 - - -", start.bytes[IMAGE]);
     log_words("R 16 15 7 9999 - 0 -", key_on.bytes[LOG]);
     image_words("R 16 15 7 9999 - 0 -", key_on.bytes[IMAGE]);
-    baseline = used(NOTHING_AT_ALL, &start);
     measure_both(&start);
     measure_both(&key_on);
     for (size_t table = 0; table < COUNT(tables); table++)

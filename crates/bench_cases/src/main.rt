@@ -1,6 +1,7 @@
 // Plays the scripts that the arguments name, in their order. What is printed is held to the file `stdout`.
 #![tactic(auto)]
 
+use std::env::FillError;
 use std::fs::File;
 use std::io;
 use std::rt::{Env, Files};
@@ -8,25 +9,34 @@ use std::rt::{Env, Files};
 // No name of a script is longer.
 const NAME_SIZE: usize = 64;
 
-// The script of that name, with its name before the listing.
-fn play_named<R: Files + Print>(rt: &R, name: &str) -> io::Result<()> {
+// The script of that name, with its name before the listing. One that cannot be opened is named on standard error.
+fn play_named<R: Eprint + Files + Print>(rt: &R, name: &str) -> io::Result<()> {
     println!(rt; "-- {name}")?;
-    let mut script = File::open(rt, name)?;
+    let mut script = match File::open(rt, name) {
+        Ok(script) => script,
+        Err(error) => return eprintln!(rt; "{name}: {error}"),
+    };
     let mut out = bench::page();
     bench_stream::play(&mut script, &mut io::writer(rt), &mut out)
 }
 
-// The script of argument k; false where there is none that can be read.
-fn play_argument<R: Env + Files + Print>(rt: &R, k: usize) -> io::Result<bool> {
+// The script that argument k names; false where there is no such argument.
+fn play_argument<R: Env + Eprint + Files + Print>(rt: &R, k: usize) -> io::Result<bool> {
     let mut name = [0u8; NAME_SIZE];
-    let Ok(n) = rt.arg(k, &mut name) else {
-        return Ok(false);
-    };
-    let Ok(name) = str::from_utf8(&name[..n]) else {
-        return Ok(false);
-    };
-    play_named(rt, name)?;
-    Ok(true)
+    match rt.arg(k, &mut name) {
+        Ok(n) => {
+            match str::from_utf8(&name[..n]) {
+                Ok(name) => play_named(rt, name)?,
+                Err(_) => eprintln!(rt; "argument {k} is no text")?,
+            }
+            Ok(true)
+        }
+        Err(FillError::TooLong) => {
+            eprintln!(rt; "argument {k} is too long")?;
+            Ok(true)
+        }
+        Err(FillError::NotPresent) => Ok(false),
+    }
 }
 
 fn main(rt: HostRuntime) -> io::Result<()> {

@@ -23,13 +23,13 @@ fn card_call(engine: u32, n: u32, unit: u32, row: u32, act: Act) -> CardCall
 }
 
 // ---- what is asked
-pub fn start_call(engine: u32, n: u32, unit: u32, row: u32) -> CardCall
+pub fn start_asks(engine: u32, n: u32, unit: u32, row: u32) -> CardCall
     ensures { result ≡ card_call engine n unit row Act.Start }
 {
     card_call(engine, n, unit, row, Act::Start)
 }
 
-pub fn key_on_call(engine: u32, n: u32, unit: u32, row: u32) -> CardCall
+pub fn key_on_asks(engine: u32, n: u32, unit: u32, row: u32) -> CardCall
     ensures { result ≡ card_call engine n unit row Act.KeyOn }
 {
     card_call(engine, n, unit, row, Act::KeyOn)
@@ -37,7 +37,7 @@ pub fn key_on_call(engine: u32, n: u32, unit: u32, row: u32) -> CardCall
 
 // `size` is the output buffer's length.
 #[tactic(auto, unfolding(cards::specs::InnerSteps::propose_asks))]
-pub fn propose_call(engine: u32, n: u32, unit: u32, row: u32, mileage: u32, size: usize) -> CardCall
+pub fn propose_asks(engine: u32, n: u32, unit: u32, row: u32, mileage: u32, size: usize) -> CardCall
     ensures { result ≡ propose_asks today engine n unit row mileage size }
 {
     if size != limits::MESSAGE_SIZE {
@@ -48,7 +48,7 @@ pub fn propose_call(engine: u32, n: u32, unit: u32, row: u32, mileage: u32, size
 }
 
 #[tactic(auto, unfolding(cards::specs::InnerSteps::deliver_asks, calls::specs::Calls::bad_message))]
-pub fn deliver_call(engine: u32, n: u32, unit: u32, message: &[u8], size: usize) -> CardCall
+pub fn deliver_asks(engine: u32, n: u32, unit: u32, message: &[u8], size: usize) -> CardCall
     ensures { result ≡ deliver_asks today engine n unit message.now size }
 {
     if (message.len() != limits::MESSAGE_SIZE) | (size != limits::MESSAGE_SIZE) {

@@ -1,7 +1,7 @@
 -- What the calls ask of a row, and what is told, is the call's definition. Assumes nothing.
 use Prim.Native.Nat.{ℕ, ◌-◌, ◌<◌}
 use mathlib.Core.Path.{◌≡◌, refl, sym, ap, ◌∙◌}
-use mathlib.Core.Bool.{Bool, true, false, cond, ◌||◌}
+use mathlib.Core.Bool.{Bool, true, false, cond, ◌||◌, or-true, or-false}
 use mathlib.Core.List.{List, [], ◌∷◌, ◌++◌}
 use native.Mathlib.Omega.{arith}
 use lib.Dec.{eqb}
@@ -125,14 +125,6 @@ module _ (c : CardCall) (rows : List CardRow) (out : List ℕ) where
 
 -- ---- a start and a key-on: no output buffer, and no decision
 
-or_false : (b : Bool) → (b || false) ≡ b
-or_false true = refl
-or_false false = refl
-
-or-true : (b : Bool) → (b || true) ≡ true
-or-true true = refl
-or-true false = refl
-
 abbrev number_and_rows : CardAnswer → CardAnswer
 number_and_rows x = card_called x.number x.rows [] blank_code
 
@@ -162,14 +154,14 @@ module _ (engine n unit k : ℕ) (rows : List CardRow) where
   start_asked =
       bare_asked Act.Start
       ∙ unless_same (conditions_of (card_call engine n unit k Act.Start) rows []) (card_start_conditions (beside engine n unit) k rows) rows [] _ _
-      (rw (or_false (wrong_count (length rows)))) (λ z. refl)
+      (rw (or-false (wrong_count (length rows)))) (λ z. refl)
 
   pub key_on_asked : bare Act.KeyOn ≡ card_key_on_call today (beside engine n unit) rows k
   unfolding card_key_on_call card_key_on_conditions front_conditions step_conditions step_answer first_refusal
   key_on_asked =
       bare_asked Act.KeyOn
       ∙ unless_same (conditions_of (card_call engine n unit k Act.KeyOn) rows []) (card_key_on_conditions today (beside engine n unit) k rows) rows [] _ _
-      (rw (or_false (wrong_count (length rows)))) (λ z. refl)
+      (rw (or-false (wrong_count (length rows)))) (λ z. refl)
 
 -- ---- a proposal and a delivery
 

@@ -113,7 +113,7 @@ pub extern "C" fn mileage_card_start(
 ) -> u32
     ensures { card_called result rows.new [] blank_code ≡ card_start_call today (beside engine n unit) rows.old row }
 {
-    let c = card_calls::buffers::start_call(engine, n, unit, row);
+    let c = card_calls::buffers::start_asks(engine, n, unit, row);
     card_calls::buffers::number_of(card_calls::on_row(c, rows))
 }
 
@@ -128,7 +128,7 @@ pub extern "C" fn mileage_card_key_on(
 ) -> u32
     ensures { card_called result rows.new [] blank_code ≡ card_key_on_call today (beside engine n unit) rows.old row }
 {
-    let c = card_calls::buffers::key_on_call(engine, n, unit, row);
+    let c = card_calls::buffers::key_on_asks(engine, n, unit, row);
     card_calls::buffers::number_of(card_calls::on_row(c, rows))
 }
 
@@ -146,7 +146,7 @@ pub extern "C" fn mileage_card_propose(
     ensures { card_called result rows.new out.new blank_code
         ≡ card_propose_call today (beside engine n unit) rows.old row mileage out.old }
 {
-    let c = card_calls::buffers::propose_call(engine, n, unit, row, mileage, out.len());
+    let c = card_calls::buffers::propose_asks(engine, n, unit, row, mileage, out.len());
     let t = card_calls::on_row(c, rows);
     card_calls::buffers::tell_message(t, out)
 }
@@ -165,7 +165,7 @@ pub extern "C" fn mileage_card_deliver(
     ensures { card_called result rows.new out.new decision.new
         ≡ card_deliver_call today (beside engine n unit) rows.old message.now out.old }
 {
-    let c = card_calls::buffers::deliver_call(engine, n, unit, message, out.len());
+    let c = card_calls::buffers::deliver_asks(engine, n, unit, message, out.len());
     let t = card_calls::on_row(c, rows);
     card_calls::buffers::tell(t, out, decision)
 }

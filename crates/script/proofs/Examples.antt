@@ -16,16 +16,16 @@ pub data Question : Type 0 where
   field header line whole : List ℕ → Question
 
 pub data Outcome : Type 0 where
-  aNumber : NumberRead → Outcome
-  aHeader : HeaderRead → Outcome
+  a_number : NumberRead → Outcome
+  a_header : HeaderRead → Outcome
   an_event : ScriptEvent → Outcome
-  aScript : Script → Outcome
+  a_script : Script → Outcome
 
 abbrev outcome : Question → Outcome
-outcome (field s) = aNumber (read_number s)
-outcome (header s) = aHeader (header_of s)
+outcome (field s) = a_number (read_number s)
+outcome (header s) = a_header (header_of s)
 outcome (line s) = an_event (event_of 3 s)
-outcome (whole s) = aScript (parse s)
+outcome (whole s) = a_script (parse s)
 
 pub record Case : Type 0 where
   pub question : Question
@@ -77,16 +77,16 @@ return = 13
 -- ---- cases
 
 abbrev number : List ℕ → ℕ → Case
-number ds v = record { question = field (digits ds); expected = aNumber (NumberRead.Is v) }
+number ds v = record { question = field (digits ds); expected = a_number (NumberRead.Is v) }
 
 abbrev no_number : List ℕ → Case
-no_number s = record { question = field s; expected = aNumber NumberRead.Malformed }
+no_number s = record { question = field s; expected = a_number NumberRead.Malformed }
 
 abbrev heads : List ℕ → Engine → ℕ → ℕ → Case
-heads s engine n entry = record { question = header s; expected = aHeader (HeaderRead.Is (record { engine = engine; n = n; entry = entry })) }
+heads s engine n entry = record { question = header s; expected = a_header (HeaderRead.Is (record { engine = engine; n = n; entry = entry })) }
 
 abbrev no_header : List ℕ → Case
-no_header s = record { question = header s; expected = aHeader HeaderRead.Malformed }
+no_header s = record { question = header s; expected = a_header HeaderRead.Malformed }
 
 abbrev event : List ℕ → ScriptEvent → Case
 event s e = record { question = line s; expected = an_event e }
@@ -95,7 +95,7 @@ abbrev no_event : List ℕ → Case
 no_event s = event s ScriptEvent.Malformed
 
 abbrev reads : List ℕ → Script → Case
-reads s r = record { question = whole s; expected = aScript r }
+reads s r = record { question = whole s; expected = a_script r }
 
 abbrev b37 : Header
 b37 = record { engine = Engine.B; n = 3; entry = 7 }

@@ -5,7 +5,7 @@ use Rattle.tally.proofs.Bounds.{sane_today}
 use Rattle.formats.specs.Messages.{message_reading}
 use Rattle.calls.proofs.Entries.{message_refused}
 use Rattle.cards.specs.InnerSteps.{deliver_asks}
-use Rattle.card_calls.proofs.buffers.deliver_call.Goals as goal
+use Rattle.card_calls.proofs.buffers.deliver_asks.Goals as goal
 
 pub returns-in-Refused : goal.returns-in-Refused
 unfolding deliver_asks
