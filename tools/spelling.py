@@ -27,8 +27,9 @@ MADE = ("invariant-", "decreases-")
 
 # `first_of` is a word of the tactics; `all_hold` is of estimates, and another thing than that all worked cases hold.
 OTHERWISE = {"firstOf": "first_refusal", "all-hold": "all_cases_hold"}
-# Laws that the kit's script had turned, for a library has their spelling; the definition beside each is still to be turned.
-TURNED = {"in_image": "inImage", "is_down": "isDown", "is_up": "isUp", "kind_ok": "kindOk", "numbers_of": "numbersOf"}
+# Where a library has their spelling, the kit's script had turned these laws, and the definitions that these laws speak of.
+TURNED = {"in_image", "is_down", "is_up", "kind_ok", "numbers_of"}
+BESIDE = {"in-range", "is-empty", "read-log"}
 
 
 def snake(word):
@@ -89,8 +90,8 @@ def table_of(texts, own):
     if not found:
         return {}
     camel = {snake(word) for word in found if "-" not in word}
-    table = {word: snake(word) + ("_lem" if "-" in word and snake(word) in camel else "") for word in found}
-    table.update({law: law + "_lem" for law, definition in TURNED.items() if definition in found and law in plain})
+    table = {word: snake(word) + ("_lem" if word in BESIDE or "-" in word and snake(word) in camel else "") for word in found}
+    table.update({law: law + "_lem" for law in TURNED & plain})
     for old, new in OTHERWISE.items():
         # as it stands, or as the kit's script left it: then nothing has the old spelling
         table[old if old in words else snake(old)] = new
