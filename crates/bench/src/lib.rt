@@ -45,10 +45,10 @@ fn put_malformed(out: &mut [u8]) -> usize
 
 // The header's line, and those of the events from byte p on.
 fn put_played(script: &[u8], p: usize, h: Header, out: &mut [u8]) -> usize
-    requires p_in_bounds { p ≤ length script.now }
+    requires in_script { p ≤ length script.now }
     requires script_len_bound { length script.now ≤ script_size }
     requires h_value { in_ranges h.n h.entry ≡ true }
-    requires max_listing_in_bounds { max_listing ≤ length out.old }
+    requires room { max_listing ≤ length out.old }
     ensures { Puts out.old 0 (header_line h ++ rest_text today (start h) 0 (events_from h.n script.now p))
         out.new result }
 {

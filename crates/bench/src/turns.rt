@@ -44,11 +44,11 @@ pub(crate) fn put_events(
     out: &mut [u8],
     begin: usize,
 ) -> usize
-    requires from_in_bounds { from ≤ length script.now }
+    requires in_script { from ≤ length script.now }
     requires script_len_bound { length script.now ≤ script_size }
     requires n_nonzero { 0 < h.n }
     requires n_le_senders { h.n ≤ senders }
-    requires from_in_bounds_2 { begin + length (rest_text today (start h) 0 (events_from h.n script.now from)) ≤ length out.old }
+    requires room { begin + length (rest_text today (start h) 0 (events_from h.n script.now from)) ≤ length out.old }
     ensures { Puts out.old begin (rest_text today (start h) 0 (events_from h.n script.now from)) out.new result }
 {
     let mut b = bench_turns::start(h);

@@ -39,7 +39,7 @@ fn put_byte(out: &mut [u8], at: usize, b: u8) -> usize
 
 // n in decimal, in at most k digits.
 fn put_digits(out: &mut [u8], at: usize, n: u32, k: usize) -> usize
-    requires n_in_bounds { at + length (digits k n) ≤ length out.old }
+    requires room { at + length (digits k n) ≤ length out.old }
     requires k_nonzero { 0 < k }
     requires n_bound { n < 10 ^ k }
     ensures { Puts out.old at (digits k n) out.new result }

@@ -6,7 +6,7 @@ use mathlib.Core.List.{[], ◌∷◌}
 use native.Mathlib.Omega.{arith}
 use lib.Dec.{ltb}
 use lib.ListN.{get_or, set}
-use borrow.Author.Tests.{eq-eqb, ne_eqb, ltb-false, le-leb, lt-leb}
+use borrow.Author.Tests.{eq-eqb, ne_eqb, ltb-true, ltb-false, le-leb, lt-leb}
 use Rattle.tally.proofs.Never.{never}
 use Rattle.tally.specs.Limits.{Limits, places}
 use Rattle.tally.specs.declared.Refusal.{Refusal}
@@ -27,6 +27,21 @@ use Rattle.bench_turns.specs.InnerTurns.{place_or_first, event_place, turn_deliv
 use Rattle.bench_turns.specs.declared.LineOutcome.{LineOutcome}
 
 -- ---- the place of the message that an event takes
+
+place_or_first_lem : (k : ℕ) → place_or_first k < places
+place_or_first_lem k = go (ltb k places) refl
+  where
+    go : (t : Bool) → ltb k places ≡ t → cond t k 0 < places
+    go true e = ltb-true k places e
+    go false e = omega arith
+
+pub place_below : (e : ScriptEvent) → event_place e < places
+place_below ScriptEvent.Malformed = omega arith
+place_below (ScriptEvent.Propose u v) = omega arith
+place_below (ScriptEvent.Deliver u k) = place_or_first_lem k
+place_below (ScriptEvent.Cut u k) = place_or_first_lem k
+place_below (ScriptEvent.KeyOff u) = omega arith
+place_below (ScriptEvent.KeyOn u) = omega arith
 
 -- ---- what comes of an answer
 

@@ -1,5 +1,5 @@
-// The scope paper's worked cases through the calls that the C entries hand on (`mileage`): its listing, the examples of the numbers 1 to 7, and
-// the last rounds. What is printed is held to the file `stdout`.
+// The scope paper's worked cases, by the functions that the C entries of `mileage` are one call of: its listing, the examples of the numbers 1 to
+// 7, and the last rounds. What is printed is held to the file `stdout`.
 #![tactic(auto)]
 
 mod show;

@@ -1,11 +1,12 @@
 -- What the code of the four calls meets on its way: what is refused, and what is stored. Assumes nothing.
 use Prim.Native.Nat.{ℕ, ◌<◌, ◌^◌}
 use mathlib.Core.Path.{◌≡◌, refl, sym, ◌∙◌}
-use mathlib.Core.Bool.{Bool, true, false, not, ◌||◌}
+use mathlib.Core.Bool.{Bool, true, false, not, ◌&&◌, ◌||◌}
 use mathlib.Core.List.{List}
 use native.Mathlib.Omega.{arith}
 use lib.ListN.{length}
-use borrow.Author.Tests.{eqb-true, lt-ltb, not-false}
+use lib.Dec.{ltb}
+use borrow.Author.Tests.{eqb-true, lt-ltb, ltb-true, not-false}
 use Rattle.contents.specs.Messages.{message_ok, empty_message}
 use Rattle.tally.specs.Limits.{Limits, Sane, log_size, image_size, message_size}
 use Rattle.tally.specs.Refusal.{number_of}
@@ -16,6 +17,7 @@ use Rattle.contents.specs.Logs.{numbers_ok}
 use Rattle.contents.specs.declared.Image.{Image}
 use Rattle.contents.specs.declared.Log.{Log}
 use Rattle.contents.specs.declared.Message.{Message}
+use Rattle.contents.proofs.Tests.{both_true}
 use Rattle.contents.proofs.Facts.{numbers_facts}
 use Rattle.formats.specs.Codes.{engine_of}
 use Rattle.formats.specs.Formats.{reading}
@@ -41,7 +43,27 @@ neither false true e = never (sym e)
 
 -- ---- the settings of a start
 
+-- numbers that fit the code's types
+pub record SettingsFit (engine n unit entry : ℕ) : Type 0 where
+  pub small_engine : engine < 256 ^ 1
+  pub small_n : n < 256 ^ 1
+  pub small_unit : unit < 256 ^ 1
+  pub small_entry : entry < 256 ^ 2
+
 module _ (engine n unit entry : ℕ) where
+  pub small : settings_narrow engine n unit entry ≡ true → SettingsFit engine n unit entry
+  unfolding settings_narrow
+  small h =
+      let a = both_true (ltb engine (256 ^ 1) && ltb n (256 ^ 1) && ltb unit (256 ^ 1)) (ltb entry (256 ^ 2)) h in
+      let b = both_true (ltb engine (256 ^ 1) && ltb n (256 ^ 1)) (ltb unit (256 ^ 1)) a.0 in
+      let c = both_true (ltb engine (256 ^ 1)) (ltb n (256 ^ 1)) b.0 in
+      record {
+        small_engine = ltb-true _ _ c.0;
+        small_n = ltb-true _ _ c.1;
+        small_unit = ltb-true _ _ b.1;
+        small_entry = ltb-true _ _ a.1;
+      }
+
   -- a number that is too large is out of its range, or no engine's letter
   pub settings_too_large : settings_narrow engine n unit entry ≡ false → bad_settings (engine_of engine) n unit entry ≡ true
   unfolding settings_narrow bad_settings

@@ -1,14 +1,16 @@
 -- The calls over any lawful format: what writing contents answers, and both round trips between fields and bytes. Assumes nothing.
-use Prim.Native.Nat.{ℕ}
+use Prim.Native.Nat.{ℕ, ◌+◌, ◌≤◌}
 use mathlib.Core.Path.{◌≡◌, refl, sym, ap}
 use mathlib.Core.Bool.{Bool, true, false, cond, ◌&&◌}
-use mathlib.Core.List.{List}
+use mathlib.Core.List.{List, append-nil}
+use mathlib.Core.Option.{some}
 use native.Mathlib.Omega.{arith}
 use lib.Dec.{eqb}
-use lib.ListN.{length}
-use borrow.Author.Tests.{eq-eqb, eqb-true, eqb-false}
+use lib.ListN.{length, drop_of_length-le}
+use lib.Seq.{sets, sets-eq}
+use borrow.Author.Tests.{eq-eqb, ne_eqb, eqb-true, eqb-false}
 use Rattle.contents.proofs.Tests.{both_true}
-use Rattle.formats.specs.Formats.{ReadAnswer, reading, wrote, Format, with_zero, from_numbers, read_bytes, to_bytes}
+use Rattle.formats.specs.Formats.{ReadAnswer, reading, wrote, Format, with_zero, checked, from_numbers, read_bytes, to_bytes, write_bytes}
 use Rattle.formats.specs.Numbers.{Bytes, pack}
 use Rattle.formats.proofs.Packed.{Fit}
 use Rattle.tally.specs.Refusal.{number_of}
@@ -21,7 +23,26 @@ use Rattle.formats.proofs.MessageFormat as message
 use Rattle.tally.specs.Limits.{Limits, log_fields, log_size, message_fields, message_size, Sane}
 use Rattle.calls.specs.Fields.{put_numbers, put_checked, read_call, write_call, FieldTrip, read_log_call, write_log_call, read_message_call, write_message_call}
 
+-- storing as many numbers as there are leaves these numbers
+pub sets_whole : (fs vs : List ℕ) → length fs ≡ length vs → sets fs 0 vs ≡ vs
+sets_whole fs vs e =
+    let short : length fs ≤ 0 + length vs = omega arith in
+    rw (sets-eq vs fs 0 (omega arith), drop_of_length-le fs short) (append-nil vs)
+
 module _ {A : Type 0} (f : Format A) (law : LawfulFormat f (λ a. Unit)) where
+  -- contents that were parsed are written as contents are
+  pub put_checked_lem : (a : A) (kept bs : List ℕ) → length bs ≡ f.size → put_checked f (checked f (some a)) kept ≡ write_bytes f a kept bs
+  put_checked_lem a kept bs len = rw (eq-eqb (length bs) f.size len) (go (f.ok a))
+    where
+      go : (t : Bool) → put_checked f (cond t (reading 0 a) (reading f.malformed f.nothing)) kept ≡ cond t (wrote 0 (to_bytes f a))
+          (wrote f.malformed kept)
+      go true = refl
+      go false = rw (ne_eqb f.malformed 0 law.refuses)
+
+  -- what a read call answers where the fields' length is right
+  pub read_accepted : (bs fs : List ℕ) (a : A) → length fs ≡ f.fields → read_bytes f bs ≡ reading 0 a → read_call f bs fs ≡ wrote 0 (f.numbers a)
+  read_accepted bs fs a len e = rw (eq-eqb (length fs) f.fields len, e)
+
   pub read_refused : (bs fs : List ℕ) (k : ℕ) → length fs ≡ f.fields → read_bytes f bs ≡ reading k f.nothing → read_call f bs fs ≡ wrote k fs
   read_refused bs fs k len e = rw (eq-eqb (length fs) f.fields len, e, refused_number f (λ a. Unit) law bs k e)
 

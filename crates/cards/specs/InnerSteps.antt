@@ -1,4 +1,4 @@
--- What inner functions of card_rows and card_calls promise, of which no public call's contract speaks: a call by value, which row it is of,
+-- What inner functions of card_rows and card_calls promise, of which no public call's contract speaks: a call as a value, which row it is of,
 -- and the step of that row. Assumes nothing.
 use Rattle.std.specs.Prelude.{ℕ, ◌-◌, Bool, true, false, not, cond, ◌&&◌, ◌||◌, List, [], ◌∷◌, eqb, leb, length, get_or, set}
 use Rattle.tally.specs.Limits.{Limits, message_size}

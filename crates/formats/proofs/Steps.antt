@@ -19,6 +19,9 @@ use Rattle.formats.specs.declared.EngineRead.TheVariants.{Unknown}
 use Rattle.formats.proofs.Packed.{pack_into_eq}
 
 module _ {A : Type 0} (f : Format A) (bs : List ℕ) where
+  pub read_length : (length bs ≡ f.size → ⊥) → read_bytes f bs ≡ reading (number_of Length) f.nothing
+  read_length n = rw (ne_eqb (length bs) f.size n)
+
   pub read_numbers_in : length bs ≡ f.size → zero_byte f bs ≡ 0 → read_bytes f bs ≡ from_numbers f (numbers_in f bs)
   read_numbers_in e z = rw (eq-eqb (length bs) f.size e, eq-eqb (zero_byte f bs) 0 z)
 

@@ -15,16 +15,16 @@ put_header-at-requires c =
     let most = played_length today x.h x.script.now x.p c.requires.h_value c.requires.script_len_bound in
     rw c.letter_of.ensures
     (room_first 0 (header_line x.h) (rest_text today (start x.h) 0 (events_from x.h.n x.script.now x.p)) x.out.now
-    (omega (arith, most, c.requires.max_listing_in_bounds)))
+    (omega (arith, most, c.requires.room)))
 
-pub put_events-requires-clause-from_in_bounds_2 : goal.put_events-requires-clause-from_in_bounds_2
+pub put_events-requires-clause-room : goal.put_events-requires-clause-room
 unfolding header_line
-put_events-requires-clause-from_in_bounds_2 c =
+put_events-requires-clause-room c =
     let x = c.args in
     let most = played_length today x.h x.script.now x.p c.requires.h_value c.requires.script_len_bound in
     let wrote = rw c.letter_of.ensures at c.put_header-at.ensures in
     room_next (rest_text today (start x.h) 0 (events_from x.h.n x.script.now x.p)) wrote c.put_header-at.auto.out
-    (omega (arith, most, c.requires.max_listing_in_bounds))
+    (omega (arith, most, c.requires.room))
 
 pub returns : goal.returns
 unfolding header_line

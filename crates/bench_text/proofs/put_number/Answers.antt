@@ -2,9 +2,9 @@
 use Rattle.bench_text.specs.Text.{decimal}
 use Rattle.bench_text.proofs.put_number.Goals as goal
 
-pub put_digits-requires-clause-n_in_bounds : goal.put_digits-requires-clause-n_in_bounds
+pub put_digits-requires-clause-room : goal.put_digits-requires-clause-room
 unfolding decimal
-put_digits-requires-clause-n_in_bounds c = c.requires
+put_digits-requires-clause-room c = c.requires
 
 pub returns : goal.returns
 unfolding decimal

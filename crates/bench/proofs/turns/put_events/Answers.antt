@@ -11,7 +11,7 @@ use Rattle.bench.proofs.turns.put_events.Goals.{then-is_accepted+then-is_sent, t
 pub loop-p-init : goal.loop-p-init
 loop-p-init c =
     record {
-      in_script = c.requires.from_in_bounds;
+      in_script = c.requires.in_script;
       counted = omega arith;
       sized = rw c.start-b.ensures (start_sized c.args.h);
       same_length = refl;
@@ -23,7 +23,7 @@ put_line-at-requires c =
     let inv = c.loop-p.invariant in
     let t =
     turned today c.loop-p.b _ _ _ _ _ inv.sized.kept c.event_unit-u.ensures c.event_place-k.ensures c.turn-answer.ensures c.outcome_of-outcome.ensures in
-    let room = left_room today c.args.h.n c.args.script.now inv.left c.args.out.now inv.same_length c.requires.from_in_bounds_2 in
+    let room = left_room today c.args.h.n c.args.script.now inv.left c.args.out.now inv.same_length c.requires.room in
     rw (c.listing_line.ensures, line_turned _ t)
     (turn_room today _ _ c.loop-p.b _ _ _ c.line_at-line.result.event c.loop-p.out _ c.line_at-line.ensures.events room)
 
@@ -58,7 +58,7 @@ loop-p-preserved c =
 pub put_end-requires : goal.put_end-requires
 put_end-requires c =
     let inv = c.loop-p.invariant in
-    end_room today c.args.h.n c.args.script.now inv.left c.loop-p-test.false c.args.out.now inv.same_length c.requires.from_in_bounds_2
+    end_room today c.args.h.n c.args.script.now inv.left c.loop-p-test.false c.args.out.now inv.same_length c.requires.room
 
 pub returns : goal.returns
 returns c = left_end today _ _ c.loop-p.invariant.left c.loop-p-test.false c.put_end.ensures
