@@ -15,7 +15,7 @@ version := $(shell sed -n 's/^.define MILEAGE_VERSION UINT32_C(\(.*\))$$/\1/p' i
 define help
 make all                    proves and builds $(archive) and $(program);
                             needs rt, Rattle's kit, on PATH; some 10 minutes from nothing
-make test                   the whole gate: all proofs from nothing, all tests (bash .ci/run)
+make test                   the whole gate: all proofs, all tests (bash .ci/run)
 make install PREFIX=FOLDER  all, and then header, archive, bench program and mileage.pc for pkg-config below FOLDER
                             (now $(prefix); DESTDIR is put before it)
 make clean                  removes target/ and crates/*/out, all that was built

@@ -3,9 +3,9 @@
 
 usage: python3 tools/spelling.py [--table] FOLDER      FOLDER: the top of a checkout whose names are still to be turned
 
-It was run once, after the kit's own script (docs/PORT.md). `quorumOf` becomes `quorum_of`, `first-again` `first_again`. Where a law would fall
-together with the definition that it speaks of, the law gets `_lem` (the kit's rule). What the kit makes of names of the code (`c.if-is_marked.true`,
-`returns-in-Fits`), what a library declares, names of the code and texts in quotes stay. Prints what was turned; --table prints old and new names instead.
+It serves after the kit's own script (docs/PORT.md). `quorumOf` becomes `quorum_of`, `first-b` `first_b`. A law that would get the name of a definition gets
+`_lem` (the kit's rule). What the kit makes of names of the code (`c.if-is_marked.true`, `returns-in-Fits`), what a library declares, and names of the
+code stay. Prints how many names and files it turned; --table prints each old and new name and turns nothing.
 """
 
 import collections
@@ -27,8 +27,9 @@ MADE = ("invariant-", "decreases-")
 
 # `first_of` is a word of the tactics; `all_hold` is of estimates, and another thing than that all worked cases hold.
 OTHERWISE = {"firstOf": "first_refusal", "all-hold": "all_cases_hold"}
-# Where a library has their spelling, the kit's script had turned these laws, and the definitions that these laws speak of.
+# Where a library has the same spelling, the kit's script had turned: these laws, whose definitions it left ..
 TURNED = {"in_image", "is_down", "is_up", "kind_ok", "numbers_of"}
+# .. and the definitions that these laws speak of, which it left.
 BESIDE = {"in-range", "is-empty", "read-log"}
 
 
@@ -112,7 +113,8 @@ def antt(text, table, of_function):
     def part(code, comment):
         if not comment:
             return WORD.sub(lambda m: local.get(m[0]) or table.get(m[0], m[0]), code)
-        return re.sub(r"[A-Za-z][\w']*(?:-[\w']+)*", lambda m: table.get(m[0], m[0]) if "well-formed" != m[0] else m[0], code)
+        # in a comment `well-formed` is English, though a field has the name
+        return re.sub(r"[A-Za-z][\w']*(?:-[\w']+)*", lambda m: m[0] if m[0] == "well-formed" else table.get(m[0], m[0]), code)
 
     return "".join(part(p, stays) for p, stays in pieces(text, COMMENT))
 
@@ -159,7 +161,8 @@ def main(argv):
     own = set(os.listdir(os.path.join(top[0], "crates")))
     table = table_of(texts, own)
     if show:
-        print("\n".join(f"{old}\t{new}" for old, new in sorted(table.items())))
+        for old, new in sorted(table.items()):
+            print(f"{old}\t{new}")
         return 0
     falls = collections.Counter(table.values())
     for new in sorted(n for n, k in falls.items() if k > 1):
