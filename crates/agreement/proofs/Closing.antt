@@ -31,8 +31,8 @@ use Rattle.contents.proofs.KindRules.{check_mileage, second_estimate}
 use Rattle.contents.proofs.Facts.{message_facts}
 use Rattle.contents.proofs.Tests.{both_true}
 use Rattle.consensus.specs.Step.{or_if_blank, decided, next_proposal}
-use Rattle.consensus.proofs.Full.{Proper, voted, others, holds_mileage, full_voted, common_voted, lowest_voted, lowest_blank, lowest_not_split, next_r_blocks}
-use Rattle.consensus.proofs.Full.{next_r_voted}
+use Rattle.consensus.proofs.Full.{Proper, voted, others, holds_mileage, full_voted, common_voted}
+use Rattle.consensus.proofs.Full.{lowest_voted, lowest_blank, lowest_not_split, next_r_blocks, next_r_voted}
 use Rattle.agreement.specs.Worlds.{Setup, Many}
 use Rattle.agreement.proofs.Votes.{Of, of, holds_not, meet, is_vote, Vote, Unique, quorum, Quorum, Blocked, Sure, Chosen, one_quorum}
 use Rattle.agreement.proofs.Invariant.{FairMessage, Tallied, vote_sure, quorum_sure}

@@ -224,7 +224,8 @@ module _ (l : Limits) (sane : Sane l) (n : ℕ) (b : ByteWorld) (w : ContentsWor
           number_of (D.deliver l (w.units u) m).refusal ≡ 0 → Encodes l n (f (answered l (D.deliver l (w.units u) m))) (C.step l n w e)
 
       -- a delivery or a cut of it
-      on_message : (f : CallAnswer → ByteWorld) (e : C.ContentsEvent) → Delivers f e → ((c : CallAnswer) → BytesStay log image c → Encodes l n (f c) w)
+      on_message : (f : CallAnswer → ByteWorld) (e : C.ContentsEvent) → Delivers f e
+          → ((c : CallAnswer) → BytesStay log image c → Encodes l n (f c) w)
           → Follows l n (f (deliver_call l log image (sent_bytes l m) out)) w
       unfolding deliver_call_conditions
       on_message f e accepted refused =

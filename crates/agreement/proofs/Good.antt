@@ -157,7 +157,8 @@ module _ (c : Setup) (X : Message → Type 0) (A : ℕ → Type 0) where
 
 -- ---- a message delivered
 
-module _ (l : Limits) (c : Setup) (X : Message → Type 0) (A : ℕ → Type 0) (sent : (m : Message) → X m → FairMessage l c X A m) (unique : Unique X) where
+module _ (l : Limits) (c : Setup) (X : Message → Type 0) (A : ℕ → Type 0)
+    (sent : (m : Message) → X m → FairMessage l c X A m) (unique : Unique X) where
   module _ (u : ℕ) (x : U.Unit) (i : Ready c (seated c u x)) (f : Fair c X A (seated c u x)) (kept : VotesStand c X u x.logged) where
     -- a state of the current round that has each estimate which was not blank has what was voted
     kept_on : (s : State) → s.round ≡ x.current.round → ((b : Bool) → is_blank (half b x.current) ≡ false → half b s ≡ half b x.current)
@@ -274,7 +275,8 @@ module _ (l : Limits) (c : Setup) (X : Message → Type 0) (A : ℕ → Type 0) 
                 let p = proper_with Check refl e x.checks i.checks f.checks in
                 let t = tallied_with Check refl e x.checks i.checks f.checks in
                 by_check (Good c X A u x.current.round) (seated c u x) (checks_with (seated c u x) m)
-                (λ h. good_check (sym (sent m here).from.engine ∙ (check_mileage l m (kind_ok_lem l c X A sent Check m here e)).0) free _ p t (leb-true _ _ h))
+                (λ h. good_check (sym (sent m here).from.engine ∙ (check_mileage l m (kind_ok_lem l c X A sent Check m here e)).0) free _ p t
+                (leb-true _ _ h))
                 (λ h. good_silent c X A Refusal.None u _ _ (record { logged = f.logged; current = f.current; checks = t; seconds = f.seconds }) kept);
             seconds = λ e n.
                 let p = proper_with Second refl e x.seconds i.seconds f.seconds in

@@ -22,8 +22,8 @@ use Rattle.consensus.specs.Sound.{From}
 use Rattle.consensus.specs.Units.{WellFormed}
 use Rattle.consensus.specs.declared.Unit as U
 use Rattle.agreement.specs.Worlds.{Setup, settings_of, Decision, Locked}
-use Rattle.agreement.proofs.Votes.{Of, of_map, shared, is_vote, Vote, Unique, Quorum, Sure, SureOf, Chosen, one_quorum, locked, vote_up, quorum_up}
-use Rattle.agreement.proofs.Votes.{sure_up}
+use Rattle.agreement.proofs.Votes.{Of, of_map, shared, is_vote, Vote, Unique, Quorum, Sure}
+use Rattle.agreement.proofs.Votes.{SureOf, Chosen, one_quorum, locked, vote_up, quorum_up, sure_up}
 
 -- what is safe in a message
 pub record Backed (c : Setup) (X : Message → Type 0) (A : ℕ → Type 0) (m : Message) : Type 0 where

@@ -20,9 +20,9 @@ use Rattle.formats.specs.Messages.{read_message, cleared}
 use Rattle.formats.specs.Images.{read_image, image_bytes}
 use Rattle.consensus.specs.Conditions.{first_refusal}
 use Rattle.consensus.specs.Units.{at_log, down_unit}
-use Rattle.consensus.specs.Step.{says, log_write, at_round, fresh, recovered, send_first, proposed, take_first, on_first, is_full, take_second, count_check}
-use Rattle.consensus.specs.Step.{checks_with}
-use Rattle.consensus.specs.Step.{on_check, next_proposal, close, count_second, seconds_with, on_second, on_kind, skip, caught_up, received}
+use Rattle.consensus.specs.Step.{says, log_write, at_round, fresh, recovered, send_first, proposed, take_first, on_first, is_full, take_second}
+use Rattle.consensus.specs.Step.{count_check, checks_with, on_check, next_proposal, close, count_second}
+use Rattle.consensus.specs.Step.{seconds_with, on_second, on_kind, skip, caught_up, received}
 use Rattle.consensus.specs.Methods.{for_other, out_of_range, closes_last, unless, propose_conditions, propose, deliver_conditions, deliver, key_on}
 use Rattle.calls.specs.Calls.{unit_lengths, bad_log, bad_settings, bad_image, bad_message, log_bytes, message_bytes, start_call_conditions, start_call}
 use Rattle.calls.specs.Calls.{key_on_call_conditions, key_on_call, propose_call_conditions, propose_call, deliver_call_conditions, deliver_call}

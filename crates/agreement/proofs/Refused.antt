@@ -93,7 +93,8 @@ module _ (l : Limits) (sane : Sane l) (n : ℕ) (w : ContentsWorld) (valid : Val
     stays_kept : (lent : Lent) (bs : List ℕ) → (bs ≡ lent_bytes b lent) ⊎ (bs ≡ cleared l (lent_bytes b lent)) → LentStays l n w lent bs
     stays_kept (lent_log u) bs (inl e) = λ h. e ∙ has_log u h
     stays_kept (lent_log u) bs (inr e) =
-        λ h. e ∙ ap (cleared l) (has_log u h) ∙ cleared_other l _ (λ q. omega (arith, (read_log_lem l sane (unit_log (w.units u)) (valid.units u h).log).1))
+        λ h. e ∙ ap (cleared l) (has_log u h)
+        ∙ cleared_other l _ (λ q. omega (arith, (read_log_lem l sane (unit_log (w.units u)) (valid.units u h).log).1))
     stays_kept (lent_image u) bs (inl e) = λ h on. e ∙ has_image u h on
     stays_kept (lent_image u) bs (inr e) =
         λ h on. e ∙ ap (cleared l) (has_image u h on) ∙ cleared_other l _ (λ q. omega (arith, (read_image_lem l sane (w.units u) (valid.units u h)).1))
@@ -102,13 +103,15 @@ module _ (l : Limits) (sane : Sane l) (n : ℕ) (w : ContentsWorld) (valid : Val
     encodes_leave : (lent : Lent) (bs : List ℕ) → LentStays l n w lent bs → Encodes l n (leave b lent bs) w
     encodes_leave (lent_log u) bs k = encodes_same l n b w enc u _ (λ h. rw (k h, enc.units u h) (go (w.units u).power))
       where
-        go : (p : Power) → record { log = log_bytes l (unit_log (w.units u)); image = (unit_bytes_at l p (w.units u)).image } ≡ unit_bytes_at l p (w.units u)
+        go : (p : Power) → record { log = log_bytes l (unit_log (w.units u)); image = (unit_bytes_at l p (w.units u)).image }
+            ≡ unit_bytes_at l p (w.units u)
         go Up = refl
         go Down = refl
     encodes_leave (lent_image u) bs k = encodes_same l n b w enc u _ (λ h. rw (enc.units u h) (go (w.units u).power (k h)))
       where
         go : (p : Power) → (p ≡ Up → bs ≡ image_bytes l (unit_image (w.units u)))
-            → record { log = (unit_bytes_at l p (w.units u)).log; image = image_left (unit_bytes_at l p (w.units u)).image bs } ≡ unit_bytes_at l p (w.units u)
+            → record { log = (unit_bytes_at l p (w.units u)).log; image = image_left (unit_bytes_at l p (w.units u)).image bs }
+            ≡ unit_bytes_at l p (w.units u)
         go Up k = rw (k refl)
         go Down k = refl
     encodes_leave (other cs) bs k = enc

@@ -126,7 +126,8 @@ module _ (l : Limits) (n : ℕ) where
       none : event_of n p ≡ ScriptEvent.Malformed → length (line_text (line_of i (event_of n p) (answer l b (event_of n p)))) ≤ malformed_width
       none e = rw (e, malformed_line_lem l b i) (malformed_shown i small)
 
-      go : (t : Bool) → leb 3 (length p) ≡ t → length (line_text (line_of i (event_of n p) (answer l b (event_of n p)))) ≤ malformed_width * suc (length p)
+      go : (t : Bool) → leb 3 (length p) ≡ t
+          → length (line_text (line_of i (event_of n p) (answer l b (event_of n p)))) ≤ malformed_width * suc (length p)
       go true h = omega (arith, leb-true 3 (length p) h, any_shown i small (event_of n p) (answer l b (event_of n p)))
       go false h = omega (arith, none (short_line n p (leb-false 3 (length p) h)))
 

@@ -62,7 +62,8 @@ unit_number l b (ScriptEvent.KeyOff u) x h = absurd h
 unit_number l b (ScriptEvent.KeyOn u) x h = rw h
 
 -- a line that is no call and not K is refused
-no_call_refused : (c : B.ByteWorld) (e : ScriptEvent) (r : Refusal) → ((u : ℕ) → e ≡ ScriptEvent.KeyOff u → ⊥) → NoCall c e r → number_of r ≡ 0 → ⊥
+no_call_refused : (c : B.ByteWorld) (e : ScriptEvent) (r : Refusal) → ((u : ℕ) → e ≡ ScriptEvent.KeyOff u → ⊥) → NoCall c e r
+    → number_of r ≡ 0 → ⊥
 no_call_refused c ScriptEvent.Malformed r other q zero = omega (arith, ap number_of q, zero)
 no_call_refused c (ScriptEvent.Propose u v) r other q zero = omega (arith, ap number_of q.0, zero)
 no_call_refused c (ScriptEvent.Deliver u k) r other (inl q) zero = omega (arith, ap number_of q.0, zero)
@@ -153,7 +154,8 @@ module _ (l : Limits) (sane : Sane l) (n : ℕ) (b : Bench) (sized : Sized b) (l
       answers : (x : CallAnswer) → call_of l c e ≡ some x → AsUnit l b e x
       answers x q = subst (LineClaim l c b e) q (own e below)
 
-      number : (x : CallAnswer) → call_of l c e ≡ some x → ((answer l b e).refusal ≡ Refusal.Full → ⊥) → x.number ≡ number_of (answer l b e).refusal
+      number : (x : CallAnswer) → call_of l c e ≡ some x → ((answer l b e).refusal ≡ Refusal.Full → ⊥)
+          → x.number ≡ number_of (answer l b e).refusal
       number x q other = unit_number l b e x (answers x q) ∙ own_number l b e other
 
       made : number_of (answer l b e).refusal ≡ 0 → ((u : ℕ) → e ≡ ScriptEvent.KeyOff u → ⊥) → (o : Option CallAnswer) → call_of l c e ≡ o

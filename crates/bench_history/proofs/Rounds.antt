@@ -15,8 +15,8 @@ use Rattle.contents.specs.Messages.{message_ok, empty_message}
 use Rattle.contents.specs.declared.Kind.{Kind}
 use Rattle.contents.specs.declared.Message.{Message}
 use Rattle.consensus.specs.Methods.{closes_last, propose_conditions, propose, deliver_conditions, deliver, key_off, key_on}
-use Rattle.consensus.specs.Step.{says, log_write, at_round, fresh, recovered, send_first, proposed, take_first, take_second, close, on_kind, skip}
-use Rattle.consensus.specs.Step.{received}
+use Rattle.consensus.specs.Step.{says, log_write, at_round, fresh, recovered, send_first, proposed}
+use Rattle.consensus.specs.Step.{take_first, take_second, close, on_kind, skip, received}
 use Rattle.consensus.specs.Units.{at_log, down_unit}
 use Rattle.consensus.specs.declared.Answer.{Answer}
 use Rattle.consensus.specs.declared.Unit as U

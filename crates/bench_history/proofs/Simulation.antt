@@ -31,8 +31,8 @@ use Rattle.bench_play.specs.Bench.{LineAnswer, fresh_units, start, no_unit, unit
 use Rattle.bench_play.specs.Play.{Played, answer, play, bench_after, unit_answer}
 use Rattle.bench_play.specs.declared.Bench.{Bench}
 use Rattle.bench_play.specs.declared.Sent.{Sent}
-use Rattle.bench_history.specs.History.{setup_of, Below, of_accepted, contents_event, history, event_proposals, proposals, decided_of, decisions, Shows}
-use Rattle.bench_history.specs.History.{contents_after}
+use Rattle.bench_history.specs.History.{setup_of, Below, of_accepted, contents_event, history, event_proposals}
+use Rattle.bench_history.specs.History.{proposals, decided_of, decisions, Shows, contents_after}
 use Rattle.bench_play.specs.Claims.{Sized}
 use Rattle.bench_history.proofs.Accepted.{Went, went}
 use Rattle.bench_history.proofs.Lists.{flat_snoc}

@@ -81,6 +81,7 @@ pub record OwnCall (l : Limits) (w : B.ByteWorld) (b : Bench) (e : ScriptEvent) 
   -- the call answers all that the bench's unit does
   pub answers : (c : CallAnswer) → call_of l w e ≡ some c → AsUnit l b e c
   -- its number is the line's, 5 and 6 too, unless the line is refused with 11
-  pub number : (c : CallAnswer) → call_of l w e ≡ some c → ((answer l b e).refusal ≡ Refusal.Full → ⊥) → c.number ≡ number_of (answer l b e).refusal
+  pub number : (c : CallAnswer) → call_of l w e ≡ some c → ((answer l b e).refusal ≡ Refusal.Full → ⊥)
+      → c.number ≡ number_of (answer l b e).refusal
   -- where there is no call, the bench's own refusal has its reason
   pub no_call : call_of l w e ≡ none → NoCall w e (answer l b e).refusal

@@ -119,7 +119,8 @@ pub record Turned (l : Limits) (b : Bench) (e : ScriptEvent) (u : ℕ) (a : Answ
   pub same : line_answer b u a o ≡ answer l b e
 
 -- as the code has it, of unit u and message k of the bench
-pub turned : (l : Limits) (b : Bench) (e : ScriptEvent) (u k : ℕ) (a : Answer) (o : LineOutcome) → b.kept ≤ places → u ≡ event_unit e → k ≡ event_place e
+pub turned : (l : Limits) (b : Bench) (e : ScriptEvent) (u k : ℕ) (a : Answer) (o : LineOutcome) → b.kept ≤ places → u ≡ event_unit e
+    → k ≡ event_place e
     → a ≡ turn l (get_or b.units u no_unit) b.kept (get_or b.messages k empty_message) e → o ≡ outcome_of b.kept a → Turned l b e u a o
 unfolding unit_at message_at
 turned l b e u k a o h at place took came = record { same = rw (came, took, at, place) (turn_answers l b e h) }

@@ -38,8 +38,7 @@ use Rattle.consensus.specs.declared.Unit as U
 use Rattle.calls.proofs.Refusals.{start_refusing}
 use Rattle.calls.specs.Calls.{CallAnswer, called, settings_for, unless_refused, unit_lengths, bad_log, bad_image, bad_message, bad_settings, log_bytes}
 use Rattle.calls.specs.Calls.{message_bytes, answered, start_call_conditions, start_call, key_on_call_conditions, key_on_call, propose_call_conditions}
-use Rattle.calls.specs.Calls.{propose_call}
-use Rattle.calls.specs.Calls.{deliver_call_conditions, deliver_call}
+use Rattle.calls.specs.Calls.{propose_call, deliver_call_conditions, deliver_call}
 
 -- an answer that is accepted, as bytes
 abbrev pub accepted : Limits → Answer → CallAnswer

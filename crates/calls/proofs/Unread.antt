@@ -9,8 +9,8 @@ use Rattle.tally.specs.Limits.{Limits}
 use Rattle.tally.specs.Refusal.{number_of}
 use Rattle.tally.specs.declared.Refusal.{Refusal}
 use Rattle.consensus.specs.Conditions.{condition, first_refusal}
-use Rattle.calls.specs.Calls.{CallAnswer, unless_refused, unit_lengths, bad_log, bad_settings, start_call_conditions, start_call, key_on_call_conditions}
-use Rattle.calls.specs.Calls.{key_on_call}
+use Rattle.calls.specs.Calls.{CallAnswer, unless_refused, unit_lengths, bad_log, bad_settings}
+use Rattle.calls.specs.Calls.{start_call_conditions, start_call, key_on_call_conditions, key_on_call}
 use Rattle.formats.specs.Codes.{engine_of}
 
 module _ (l : Limits) where

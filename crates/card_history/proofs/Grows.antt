@@ -60,7 +60,8 @@ module _ (w : CardWorld) where
     grown_if : (b : Bool) (w' : CardWorld) → Grown w w' → Grown w (cond b w' w)
     grown_if b w' p = if_so (Grown w) b w' w (λ e. p) grown_same
 
-    grown_message : (u : ℕ) (out : List ℕ) (f : Message → CardAnswer → RowOutcome) → ((m : Message) (a : CardAnswer) → is_new (f m a).stage ≡ false)
+    grown_message : (u : ℕ) (out : List ℕ) (f : Message → CardAnswer → RowOutcome)
+        → ((m : Message) (a : CardAnswer) → is_new (f m a).stage ≡ false)
         → (o : Option (List ℕ)) → Grown w (delivering l g n w u out f o)
     unfolding delivering
     grown_message u out f s none = grown_same

@@ -19,15 +19,15 @@ use Rattle.formats.specs.Numbers.{num_at, bytes_of}
 use Rattle.formats.specs.Messages.{read_message, cleared}
 use Rattle.consensus.specs.Conditions.{first_refusal}
 use Rattle.consensus.specs.Units.{at_log, down_unit}
-use Rattle.consensus.specs.Step.{says, log_write, at_round, fresh, recovered, send_first, proposed, take_first, on_first, is_full, take_second, count_check}
-use Rattle.consensus.specs.Step.{checks_with}
-use Rattle.consensus.specs.Step.{on_check, next_proposal, close, count_second, seconds_with, on_second, on_kind, skip, caught_up, received}
+use Rattle.consensus.specs.Step.{says, log_write, at_round, fresh, recovered, send_first, proposed, take_first, on_first, is_full, take_second}
+use Rattle.consensus.specs.Step.{count_check, checks_with, on_check, next_proposal, close, count_second}
+use Rattle.consensus.specs.Step.{seconds_with, on_second, on_kind, skip, caught_up, received}
 use Rattle.consensus.specs.Methods.{for_other, out_of_range, closes_last}
 use Rattle.calls.specs.Calls.{bad_settings, bad_message, message_bytes}
 use Rattle.calls.proofs.Examples.{junk}
 use Rattle.cards.specs.Calls.{row_at, wrong_count, names_no_row, bad_row_log, other_row, bad_row_image, card_start_conditions, card_start_call}
-use Rattle.cards.specs.Calls.{card_key_on_conditions}
-use Rattle.cards.specs.Calls.{card_key_on_call, card_propose_conditions, card_propose_call, card_deliver_conditions, card_deliver_call}
+use Rattle.cards.specs.Calls.{card_key_on_conditions, card_key_on_call, card_propose_conditions}
+use Rattle.cards.specs.Calls.{card_propose_call, card_deliver_conditions, card_deliver_call}
 use Rattle.cards.specs.Rows.{row_log, row_image, no_row}
 use Rattle.cards.specs.declared.CardRow.{CardRow}
 use Rattle.agreement.specs.Worlds.{run}

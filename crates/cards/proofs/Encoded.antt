@@ -29,9 +29,8 @@ use Rattle.consensus.specs.declared.Unit as U
 use Rattle.calls.specs.Calls.{bad_settings, bad_message, message_bytes}
 use Rattle.calls.proofs.Encoded.{read_message_lem}
 use Rattle.cards.specs.Calls.{CardAnswer, card_called, unless_card, answered_card, wrong_count, names_no_row, row_at, Beside, beside, bad_beside}
-use Rattle.cards.specs.Calls.{settings_of_row}
-use Rattle.cards.specs.Calls.{bad_row_log, other_row, bad_row_image, card_start_conditions, card_start_call, card_key_on_conditions, card_key_on_call}
-use Rattle.cards.specs.Calls.{card_propose_conditions, card_propose_call, card_deliver_conditions, card_deliver_call}
+use Rattle.cards.specs.Calls.{settings_of_row, bad_row_log, other_row, bad_row_image, card_start_conditions, card_start_call, card_key_on_conditions}
+use Rattle.cards.specs.Calls.{card_key_on_call, card_propose_conditions, card_propose_call, card_deliver_conditions, card_deliver_call}
 use Rattle.cards.specs.Rows.{row_unit, row_of, no_row}
 use Rattle.cards.specs.declared.CardRow.{CardRow}
 use Rattle.cards.proofs.Rows.{row_back}

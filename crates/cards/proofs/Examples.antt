@@ -21,9 +21,9 @@ use Rattle.consensus.specs.Step.{seconds_with, on_second, on_kind, at_round, cau
 use Rattle.consensus.specs.Methods.{for_other, out_of_range, closes_last}
 use Rattle.calls.specs.Calls.{bad_settings, bad_message, message_bytes}
 use Rattle.calls.proofs.Examples.{B, R, F, S, C, K, two, mileage, blank, junk}
-use Rattle.cards.specs.Calls.{CardAnswer, card_called, wrong_count, names_no_row, Beside, beside, bad_row_log, other_row, bad_row_image, card_start_conditions}
-use Rattle.cards.specs.Calls.{card_start_call, card_key_on_conditions, card_key_on_call, card_propose_conditions, card_propose_call, card_deliver_conditions}
-use Rattle.cards.specs.Calls.{card_deliver_call}
+use Rattle.cards.specs.Calls.{CardAnswer, card_called, wrong_count, names_no_row, Beside, beside, bad_row_log, other_row, bad_row_image}
+use Rattle.cards.specs.Calls.{card_start_conditions, card_start_call, card_key_on_conditions, card_key_on_call}
+use Rattle.cards.specs.Calls.{card_propose_conditions, card_propose_call, card_deliver_conditions, card_deliver_call}
 use Rattle.cards.specs.Rows.{row_log, row_image, no_row}
 use Rattle.cards.specs.declared.CardRow.{CardRow}
 use Rattle.cards.specs.declared.LogFields.{LogFields}

@@ -24,8 +24,8 @@ use Rattle.consensus.specs.Units.{up_unit, down_unit}
 use Rattle.consensus.specs.declared.Answer.{Answer}
 use Rattle.consensus.specs.declared.Unit as U
 use Rattle.calls.specs.Calls.{wrong_length, bad_message}
-use Rattle.cards.specs.Calls.{CardAnswer, card_called, Beside, beside, wrong_count, names_no_row, bad_beside, settings_of_row, bad_row_log, other_row}
-use Rattle.cards.specs.Calls.{bad_row_image}
+use Rattle.cards.specs.Calls.{CardAnswer, card_called, Beside, beside, wrong_count, names_no_row}
+use Rattle.cards.specs.Calls.{bad_beside, settings_of_row, bad_row_log, other_row, bad_row_image}
 use Rattle.cards.specs.Rows.{marks_fit, row_tally, log_fields_of, tally_fields_of, row_log, row_image, row_unit, row_of, no_row}
 use Rattle.cards.specs.declared.Act.{Act}
 use Rattle.cards.specs.declared.Act.TheVariants.{WrongLength, Malformed, Start, KeyOn, Step}

@@ -6,9 +6,8 @@ use Rattle.tally.specs.declared.Estimate.TheVariants.{Blank}
 use Rattle.tally.specs.declared.Refusal.{Refusal}
 use Rattle.contents.specs.declared.Message.{Message}
 use Rattle.consensus.specs.Methods.{propose_conditions, propose, deliver_conditions, deliver}
-use Rattle.consensus.specs.Step.{with_current, log_write, at_round, send_first, proposed, take_first, take_second, checks_with, close, seconds_with, on_kind}
-use Rattle.consensus.specs.Step.{skip}
-use Rattle.consensus.specs.Step.{received}
+use Rattle.consensus.specs.Step.{with_current, log_write, at_round, send_first, proposed, take_first, take_second, checks_with, close, seconds_with}
+use Rattle.consensus.specs.Step.{on_kind, skip, received}
 use Rattle.consensus.specs.Units.{unit_log, unit_image}
 use Rattle.consensus.specs.declared.Answer.{Answer}
 use Rattle.consensus.specs.declared.Unit as U

@@ -19,9 +19,8 @@ use Rattle.contents.specs.declared.Message.{Message}
 use Rattle.contents.proofs.Tests.{both_true}
 use Rattle.consensus.specs.Methods.{refuses, unless}
 use Rattle.consensus.specs.Conditions.{Condition, condition_number, first_refusal, NoneHolds}
-use Rattle.consensus.specs.Step.{quiet, with_checks, with_seconds, take_first, on_first, is_full, take_second, count_check, checks_with, on_check, at_round}
-use Rattle.consensus.specs.Step.{close}
-use Rattle.consensus.specs.Step.{count_second, seconds_with, on_second, on_kind, skip, caught_up, received}
+use Rattle.consensus.specs.Step.{quiet, with_checks, with_seconds, take_first, on_first, is_full, take_second, count_check, checks_with, on_check}
+use Rattle.consensus.specs.Step.{at_round, close, count_second, seconds_with, on_second, on_kind, skip, caught_up, received}
 use Rattle.consensus.specs.declared.Answer.{Answer}
 use Rattle.consensus.specs.declared.Unit as U
 
@@ -77,7 +76,8 @@ module _ (P : Answer → Type 0) where
   by_unless cs u a answered refused = by_test (eqb (number_of (first_refusal cs)) 0) (λ e. answered) (λ e. refused (first_refusal cs))
 
   -- conditions whose number is not 0, of which one refuses or none holds
-  pub by_conditions : (cs : List Condition) (u : U.Unit) (a : Answer) → Each (λ r. eqb (condition_number r) 0 ≡ false) cs → ((k : Refusal) → P (refuses u k))
+  pub by_conditions : (cs : List Condition) (u : U.Unit) (a : Answer) → Each (λ r. eqb (condition_number r) 0 ≡ false) cs
+      → ((k : Refusal) → P (refuses u k))
       → (NoneHolds cs → P a) → P (unless cs u a)
   unfolding unless first_refusal
   by_conditions [] u a each refused accepted = accepted tt

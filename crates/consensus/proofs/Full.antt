@@ -172,7 +172,8 @@ module _ (n : ℕ) (t : Tally) (p : Proper n t) where
         vote = λ u c h. go u c h (eqb u s) refl;
       }
     where
-      go : (u : ℕ) → u < senders → is_marked (mark t s e).marks u ≡ true → (x : Bool) → eqb u s ≡ x → is_blank (estimate_at (mark t s e) u) ≡ false
+      go : (u : ℕ) → u < senders → is_marked (mark t s e).marks u ≡ true → (x : Bool) → eqb u s ≡ x
+          → is_blank (estimate_at (mark t s e) u) ≡ false
       go u c h true q = rw (eqb-true u s q) (ap is_blank (estimate_same_at t s e (omega (arith, p.typed.cells, p.low))) ∙ nonblank)
       go u c h false q =
           let other = eqb-false u s q in

@@ -24,8 +24,8 @@ use Rattle.contents.specs.declared.State.{State}
 use Rattle.consensus.specs.Methods.{refuses, unless, propose, propose_conditions, deliver, deliver_conditions, key_off, key_on}
 use Rattle.consensus.specs.Conditions.{Condition, first_refusal, NoneHolds}
 use Rattle.consensus.specs.Step.{says, log_write, at_round, send_first, proposed, take_first, on_first, is_full, take_second, count_check, checks_with}
-use Rattle.consensus.specs.Step.{on_check}
-use Rattle.consensus.specs.Step.{decided, next_proposal, close, count_second, seconds_with, on_second, on_kind, skip, caught_up, received, fresh, recovered}
+use Rattle.consensus.specs.Step.{on_check, decided, next_proposal, close, count_second, seconds_with, on_second}
+use Rattle.consensus.specs.Step.{on_kind, skip, caught_up, received, fresh, recovered}
 use Rattle.consensus.specs.Units.{down_unit, at_log}
 use Rattle.consensus.specs.declared.Answer.{Answer}
 use Rattle.consensus.specs.declared.Power.{Power}

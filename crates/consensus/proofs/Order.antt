@@ -22,7 +22,8 @@ holds_above k j (r ∷ rs) up (inr h) = omega (arith, up.0, holds_above (conditi
 
 module _ (P : List Condition → ℕ → Type 0) (empty : P [] 0)
     (here : (r : Condition) (rs : List Condition) → r.holds ≡ true → P (r ∷ rs) (condition_number r))
-    (later : (r : Condition) (rs : List Condition) → r.holds ≡ false → P rs (number_of (first_refusal rs)) → P (r ∷ rs) (number_of (first_refusal rs))) where
+    (later : (r : Condition) (rs : List Condition) → r.holds ≡ false → P rs (number_of (first_refusal rs))
+    → P (r ∷ rs) (number_of (first_refusal rs))) where
   -- induction over the conditions up to the first that holds
   up_to_first : (cs : List Condition) → P cs (number_of (first_refusal cs))
   unfolding first_refusal

@@ -40,9 +40,8 @@ use Rattle.consensus.specs.Methods.{for_other, out_of_range, is_second, closes_l
 use Rattle.consensus.specs.Methods.{key_off, key_on}
 use Rattle.consensus.specs.Conditions.{condition, NoneHolds}
 use Rattle.consensus.specs.Sound.{From, Sound}
-use Rattle.consensus.specs.Step.{quiet, sends, says, with_current, with_proposal, with_first, with_second, with_checks, with_seconds, log_write}
-use Rattle.consensus.specs.Step.{at_round, clean, fresh, recovered, or_if_blank, send_first, proposed, vote_kind, vote_proposal, take_first, is_full}
-use Rattle.consensus.specs.Step.{take_second}
+use Rattle.consensus.specs.Step.{quiet, sends, says, with_current, with_proposal, with_first, with_second, with_checks, with_seconds, log_write, at_round}
+use Rattle.consensus.specs.Step.{clean, fresh, recovered, or_if_blank, send_first, proposed, vote_kind, vote_proposal, take_first, is_full, take_second}
 use Rattle.consensus.specs.Step.{checks_with, seconds_with, close, on_kind, skip, received}
 use Rattle.consensus.specs.Units.{WellFormed, unit_log, down_unit, at_log}
 use Rattle.consensus.specs.declared.Power.{Power}

@@ -14,8 +14,8 @@ use Rattle.tally.specs.declared.Engine.TheVariants.{B, R}
 use Rattle.tally.specs.declared.Estimate.{Estimate}
 use Rattle.tally.specs.declared.Estimate.TheVariants.{Blank, Split, Mileage}
 use Rattle.tally.specs.declared.Tally.{Tally}
-use Rattle.contents.specs.Estimates.{is_b, is_blank, is_split, is_mileage, in_range, mileage_or_blank, mileage_or_split, second_estimate_ok, same_estimate}
-use Rattle.contents.specs.Estimates.{same_mileage}
+use Rattle.contents.specs.Estimates.{is_b, is_blank, is_split, is_mileage, in_range}
+use Rattle.contents.specs.Estimates.{mileage_or_blank, mileage_or_split, second_estimate_ok, same_estimate, same_mileage}
 use Rattle.contents.specs.Images.{image_log, below_ok, unmarked_ok, marked_ok, cell_ok, cells_ok, tally_ok, checks_allowed, image_ok}
 use Rattle.contents.specs.Logs.{numbers_ok, round_ok, settings_ok, state_ok, log_ok}
 use Rattle.contents.specs.Messages.{first_ok, check_ok, second_ok, skip_ok, kind_ok, message_ok}

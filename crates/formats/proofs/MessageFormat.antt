@@ -18,9 +18,8 @@ use Rattle.contents.proofs.Facts.{message_facts}
 use Rattle.tally.proofs.Never.{never}
 use Rattle.formats.specs.Codes.{engine_of, kind_of}
 use Rattle.formats.specs.Formats.{with_zero}
-use Rattle.formats.specs.Messages.{cleared, message_widths, message_zero, message_numbers, message_of, letters_read, parse_message, message_format}
-use Rattle.formats.specs.Messages.{read_message}
-use Rattle.formats.specs.Messages.{write_message}
+use Rattle.formats.specs.Messages.{cleared, message_widths, message_zero, message_numbers, message_of}
+use Rattle.formats.specs.Messages.{letters_read, parse_message, message_format, read_message, write_message}
 use Rattle.formats.specs.RoundTrip.{RoundTrip}
 use Rattle.formats.specs.declared.EngineRead.{EngineRead}
 use Rattle.formats.specs.declared.EngineRead.TheVariants.{Is, Unknown}

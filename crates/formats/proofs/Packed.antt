@@ -79,7 +79,8 @@ pack_unpack (w ∷ ws) bs o b e =
     rw (bytes_num w o bs b (omega arith), pack_unpack ws bs (o + w) b (omega arith), ← drop-drop w o bs)
     (take-append-drop w (drop o bs))
 
-pub pack_into_eq : (ws vs bs : List ℕ) (o : ℕ) → length vs ≡ length ws → o + total ws ≡ length bs → pack_into bs o ws vs ≡ take o bs ++ pack ws vs
+pub pack_into_eq : (ws vs bs : List ℕ) (o : ℕ) → length vs ≡ length ws → o + total ws ≡ length bs
+    → pack_into bs o ws vs ≡ take o bs ++ pack ws vs
 pack_into_eq [] vs bs o n e = simp append-nil (sym (take_all o bs (omega arith)))
 pack_into_eq (w ∷ ws) [] bs o n e = let z : ⊥ = omega arith in absurd z
 pack_into_eq (w ∷ ws) (v ∷ vs) bs o n e =

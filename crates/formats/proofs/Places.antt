@@ -52,7 +52,8 @@ cell_at (suc n) (suc k) o bs h =
     cell_at n k (o + 4) bs (omega arith) ∙ ap (λ (x : ℕ). cell_of (num_at bs x 4)) e
 
 pub held_at : (marks o k : ℕ) (bs : List ℕ) → k < senders
-    → held (record { marks = marks; cells = map cell_of (unpack o cell_widths bs) }) k ≡ cond (is_marked marks k) (estimate_of (num_at bs (o + 4 * k) 4)) Blank
+    → held (record { marks = marks; cells = map cell_of (unpack o cell_widths bs) }) k
+    ≡ cond (is_marked marks k) (estimate_of (num_at bs (o + 4 * k) 4)) Blank
 unfolding held
 held_at marks o k bs h = rw (cell_at senders k o bs h)
 

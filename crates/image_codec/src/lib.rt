@@ -11,8 +11,8 @@ ghost use Rattle.formats.specs.Codes.{code_of, estimate_of};
 ghost use Rattle.formats.specs.Numbers.{num_at, unpack};
 ghost use Rattle.formats.specs.InnerNumbers.{pack_into, total};
 ghost use Rattle.formats.specs.Images.{cell_of, cell_code, cell_widths, tally_widths, tally_numbers, with_tallies, image_format, read_image};
-ghost use Rattle.formats.specs.InnerImages.{tally_at, checks_at, seconds_at, fit_state, held_from, as_marked, tally_from, state_over, tally_over, image_over};
-ghost use Rattle.formats.specs.InnerImages.{in_image};
+ghost use Rattle.formats.specs.InnerImages.{tally_at, checks_at, seconds_at, fit_state, held_from, as_marked};
+ghost use Rattle.formats.specs.InnerImages.{tally_from, state_over, tally_over, image_over, in_image};
 ghost use Rattle.formats.specs.InnerFormats.{stored};
 
 use contents::{Log, State};

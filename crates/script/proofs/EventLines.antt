@@ -10,8 +10,7 @@ use lib.ListN.{length}
 use Rattle.script.specs.Numbers.{is_number, read_number}
 use Rattle.script.specs.Parts.{comma, onto, parted}
 use Rattle.script.specs.Script.{one_of, two_of, unit_below, pair_below, of_one, of_two, letter_p, letter_d, letter_w, letter_k, letter_u, by_letter}
-use Rattle.script.specs.Script.{event_fields}
-use Rattle.script.specs.Script.{event_of, event_unit}
+use Rattle.script.specs.Script.{event_fields, event_of, event_unit}
 use Rattle.script.specs.declared.ScriptEvent.{ScriptEvent}
 use Rattle.script.specs.declared.NumberRead.{NumberRead}
 use Rattle.script.specs.declared.PairRead.{PairRead}
@@ -23,7 +22,8 @@ cond_same false x = refl
 module _ (n : ℕ) where
   -- ---- first bytes
 
-  letter_malformed : (b : ℕ) (fs : List (List ℕ)) → one_of fs ≡ NumberRead.Malformed → two_of fs ≡ PairRead.Malformed → by_letter n b fs ≡ ScriptEvent.Malformed
+  letter_malformed : (b : ℕ) (fs : List (List ℕ)) → one_of fs ≡ NumberRead.Malformed → two_of fs ≡ PairRead.Malformed
+      → by_letter n b fs ≡ ScriptEvent.Malformed
   unfolding by_letter
   letter_malformed b fs p q = simp (p, q, cond_same)
 
@@ -70,7 +70,8 @@ module _ (n : ℕ) where
         go false t = some
     one_unit make e NumberRead.Malformed = some
 
-    two_unit : (make : ℕ → ℕ → ScriptEvent) → ((u x : ℕ) → event_unit (make u x) ≡ u) → (p : PairRead) → event_unit (of_two make (pair_below n p)) < n
+    two_unit : (make : ℕ → ℕ → ScriptEvent) → ((u x : ℕ) → event_unit (make u x) ≡ u) → (p : PairRead)
+        → event_unit (of_two make (pair_below n p)) < n
     two_unit make e (PairRead.Are u x) = go (ltb u n) refl
       where
         go : (t : Bool) → ltb u n ≡ t → event_unit (of_two make (cond t (PairRead.Are u x) PairRead.Malformed)) < n

@@ -3,8 +3,8 @@ use Prim.Native.Nat.{ℕ, zero, suc, ◌+◌, ◌-◌, ◌*◌, ◌/◌, ◌%◌
 use mathlib.Core.Path.{◌≡◌, refl, sym, ap, ap₂, ◌∙◌}
 use mathlib.Core.Bool.{Bool, true, false}
 use mathlib.Core.Logic.{⊎_elim}
-use native.Mathlib.Nat.{zero-div, mod-lt, add-zero, one-mul, zero-mul, suc-mul, zero-add, mod-one, pow-suc, mul-mod_left, div-eq_of_lt, eq-or-lt_of_le}
-use native.Mathlib.Nat.{mod-eq_of_lt}
+use native.Mathlib.Nat.{zero-div, mod-lt, add-zero, one-mul, zero-mul, suc-mul, zero-add}
+use native.Mathlib.Nat.{mod-one, pow-suc, mul-mod_left, div-eq_of_lt, eq-or-lt_of_le, mod-eq_of_lt}
 use native.Mathlib.Numerals.{add-one, one-add}
 use native.Mathlib.Omega.{arith}
 use borrow.Author.Tests.{eqb-false, leb-true, leb-false}

@@ -1,5 +1,6 @@
 -- Tallies: which senders are marked, and with what. Assumes nothing.
-use Rattle.std.specs.Prelude.{ℕ, zero, suc, ◌<◌, ◌≤◌, ◌/◌, ◌%◌, ◌^◌, ◌≡◌, Bool, false, cond, List, [], ◌∷◌, eqb, length, get_or, set, replicate}
+use Rattle.std.specs.Prelude.{ℕ, zero, suc, ◌<◌, ◌≤◌, ◌/◌, ◌%◌, ◌^◌, ◌≡◌, Bool, false, cond}
+use Rattle.std.specs.Prelude.{List, [], ◌∷◌, eqb, length, get_or, set, replicate}
 use Rattle.std.specs.Int.Bits.{bit_or}
 use Rattle.tally.specs.Limits.{senders}
 use Rattle.tally.specs.declared.Cell.{Cell}

@@ -9,7 +9,8 @@ use Rattle.script.proofs.Parting.{from_there}
 use Rattle.bench_script.proofs.events.event.Goals as goal
 
 module _ (n : ℕ) where
-  lettered : (line : List ℕ) → 2 ≤ length line → get_or line 1 0 ≡ comma → by_letter n (get_or line 0 0) (parted comma (drop 2 line)) ≡ event_of n line
+  lettered : (line : List ℕ) → 2 ≤ length line → get_or line 1 0 ≡ comma
+      → by_letter n (get_or line 0 0) (parted comma (drop 2 line)) ≡ event_of n line
   lettered [] h e = absurd (omega arith)
   lettered (b ∷ []) h e = absurd (omega arith)
   lettered (b ∷ d ∷ s) h e = rw e (sym (letter_line n b s))
