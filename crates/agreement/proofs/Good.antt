@@ -1,4 +1,5 @@
 -- Each branch of one unit's step is good against the messages sent before it. Assumes nothing.
+use Rattle.std.specs.Prelude.{Option, None}
 use Prim.Native.Nat.{ℕ, ◌^◌, ◌≤◌, ◌<◌}
 use mathlib.Core.Path.{◌≡◌, refl, sym, ap, subst, ◌∙◌}
 use mathlib.Core.Bool.{Bool, true, false}
@@ -100,7 +101,7 @@ module _ (c : Setup) (X : Message → Type 0) (A : ℕ → Type 0) where
   fair_none x p q logged current = record { logged = logged; current = current; checks = rw p (tallied_none X _ _); seconds = rw q (tallied_none X _ _) }
 
   -- an answer without message and decision
-  good_silent : (k : Refusal) (u r : ℕ) (x : U.Unit) → Fair c X A x → VotesStand c X u x.logged
+  good_silent : (k : Option Refusal) (u r : ℕ) (x : U.Unit) → Fair c X A x → VotesStand c X u x.logged
       → Good c X A u r (record { refusal = k; unit = x; message = empty_message; decision = Blank })
   good_silent k u r x f kept = record { fair = f; kept = kept; message = λ h. absurd (h refl); decision = tt }
 
@@ -141,7 +142,7 @@ module _ (c : Setup) (X : Message → Type 0) (A : ℕ → Type 0) where
   module _ (u r : ℕ) (x : U.Unit) (f : Fair c X A x) (kept : VotesStand c X u x.logged) where
     rest : (p : Power) → Good c X A u r (quiet (at_log p x.settings x.logged))
     unfolding at_log
-    rest p = good_silent Refusal.None u r _ (fair_none _ refl refl f.logged f.logged) kept
+    rest p = good_silent None u r _ (fair_none _ refl refl f.logged f.logged) kept
 
     pub good_off : Good c X A u r (key_off x)
     unfolding key_off down_unit
@@ -269,7 +270,7 @@ module _ (l : Limits) (c : Setup) (X : Message → Type 0) (A : ℕ → Type 0)
       good_kind =
           by_kind (Good c X A u x.current.round) m.kind (seated c u x) m
           (record {
-            nothing = good_silent c X A Refusal.None u _ (seated c u x) f kept;
+            nothing = good_silent c X A None u _ (seated c u x) f kept;
             first = λ e. good_first;
             checks = λ e free n.
                 let p = proper_with Check refl e x.checks i.checks f.checks in
@@ -277,7 +278,7 @@ module _ (l : Limits) (c : Setup) (X : Message → Type 0) (A : ℕ → Type 0)
                 by_check (Good c X A u x.current.round) (seated c u x) (checks_with (seated c u x) m)
                 (λ h. good_check (sym (sent m here).from.engine ∙ (check_mileage l m (kind_ok_lem l c X A sent Check m here e)).0) free _ p t
                 (leb-true _ _ h))
-                (λ h. good_silent c X A Refusal.None u _ _ (record { logged = f.logged; current = f.current; checks = t; seconds = f.seconds }) kept);
+                (λ h. good_silent c X A None u _ _ (record { logged = f.logged; current = f.current; checks = t; seconds = f.seconds }) kept);
             seconds = λ e n.
                 let p = proper_with Second refl e x.seconds i.seconds f.seconds in
                 let t = tallied_with Second refl e x.seconds i.seconds f.seconds in
@@ -285,7 +286,7 @@ module _ (l : Limits) (c : Setup) (X : Message → Type 0) (A : ℕ → Type 0)
                 (λ h.
                 let full : quorum c ≤ ones (bit_or x.seconds.marks (2 ^ m.sender)) = leb-true _ _ h in
                 good_close _ p t (omega (arith, i.few, mark_adds x.seconds.marks m.sender n)))
-                (λ h. good_silent c X A Refusal.None u _ _ (record { logged = f.logged; current = f.current; checks = f.checks; seconds = t }) kept);
+                (λ h. good_silent c X A None u _ _ (record { logged = f.logged; current = f.current; checks = f.checks; seconds = t }) kept);
           })
 
   good_received : (u : ℕ) (x : U.Unit) → Ready c (seated c u x) → Fair c X A (seated c u x) → VotesStand c X u x.logged → (m : Message) → X m

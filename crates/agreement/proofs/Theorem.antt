@@ -1,4 +1,5 @@
 -- Demand 3 over bytes: the invariant is kept by every event, from any world that has it. Assumes nothing.
+use Rattle.std.specs.Prelude.{Some}
 use Prim.Native.Nat.{ℕ, ◌<◌}
 use mathlib.Core.Path.{◌≡◌, refl, sym, ap, subst, ◌∙◌}
 use mathlib.Core.List.{List, [], ◌∷◌, ◌++◌, Memᴰ}
@@ -14,7 +15,6 @@ use Rattle.contents.specs.declared.Message.{Message}
 use Rattle.contents.specs.declared.State.{State}
 use Rattle.formats.specs.Codes.{letter_of}
 use Rattle.formats.specs.Formats.{ReadAnswer, reading}
-use Rattle.formats.specs.declared.EngineRead.TheVariants.{Is}
 use Rattle.formats.specs.Images.{read_image, image_bytes}
 use Rattle.formats.specs.Logs.{read_log}
 use Rattle.formats.proofs.Letters.{engine_letter}
@@ -30,13 +30,13 @@ use Rattle.agreement.specs.Encoded.{unit_bytes_at, unit_bytes, sent_bytes, Encod
 use Rattle.agreement.specs.Worlds.{Setup, settings_of, Decision, run, Given, Locked, Seconded, Reported, Agreed}
 use Rattle.agreement.proofs.Encoding.{Valid, Follows}
 use Rattle.agreement.proofs.Follows.{step_follows}
-use Rattle.agreement.proofs.History.{Inv, Later, now, and_later, step_later, step_inv, begun_inv, well_formed_unit, from_unit, decided_given}
-use Rattle.agreement.proofs.History.{step_proposed, run_append, run_snoc, locked_later, seconds_sent}
+use Rattle.agreement.proofs.History.{Inv, Later, now, and_later, step_later, step_inv, begun_inv, well_formed_unit, from_unit, decided_given, step_proposed}
+use Rattle.agreement.proofs.History.{run_append, run_snoc, locked_later, seconds_sent}
 use Rattle.agreement.proofs.Invariant.{agreement}
 use Rattle.agreement.proofs.Refused.{has_log}
 use Rattle.agreement.proofs.Votes.{many_map}
 
-is_inj : (a b : Engine) → Is a ≡ Is b → a ≡ b
+is_inj : (a b : Engine) → Some a ≡ Some b → a ≡ b
 is_inj a b h = cc
 
 -- the invariant of a world of bytes: it has the bytes of a world of contents that has it

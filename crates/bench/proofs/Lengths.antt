@@ -5,9 +5,9 @@ use mathlib.Core.Bool.{Bool, true, false, cond}
 use mathlib.Core.List.{List, [], ◌∷◌, ◌++◌}
 use native.Mathlib.Omega.{arith}
 use lib.Dec.{leb, eqb}
-use lib.ListN.{length, drop, length-append, length-drop}
+use lib.ListN.{length, length-append}
 use borrow.Author.Tests.{leb-true, leb-false}
-use Rattle.tally.specs.Limits.{Limits, script_size}
+use Rattle.tally.specs.Limits.{Limits, today, script_size}
 use Rattle.formats.specs.Codes.{letter_of}
 use Rattle.script.specs.Numbers.{max_digits}
 use Rattle.script.specs.Parts.{comma, newline, onto, parted}
@@ -26,7 +26,7 @@ use Rattle.bench_text.specs.declared.ListingLine.{ListingLine}
 use Rattle.bench_text.specs.declared.Shown.{Shown}
 use Rattle.bench_text.proofs.Digits.{digits_most, digits_short}
 use Rattle.bench.specs.Listing.{line_of, line_with, lines_text, header_line, malformed_line, malformed_text}
-use Rattle.bench.specs.InnerLines.{events_from, rest_text}
+use Rattle.bench.specs.InnerLines.{events_in, rest_text}
 use Rattle.bench.specs.Widths.{index_width, kept_width, header_width, malformed_width, end_width, max_listing}
 use Rattle.bench.proofs.Rest.{malformed_line_lem}
 
@@ -178,13 +178,17 @@ end_length events kept e k =
 
 -- ---- the whole
 
-pub played_length : (l : Limits) (h : Header) (s : List ℕ) (p : ℕ) → in_ranges h.n h.entry ≡ true → length s ≤ script_size
-    → length (header_line h ++ rest_text l (start h) 0 (events_from h.n s p)) ≤ max_listing
-unfolding rest_text events_from
-played_length l h s p ok short =
-    let ps = parted newline (drop p s) in
-    let whole : size ps ≡ length (drop p s) = parted_size newline (drop p s) in
-    let least : size ps ≤ script_size = omega (arith, whole, length-drop p s) in
+-- a script has no more events than bytes
+pub events_most : (n : ℕ) (s : List ℕ) → length (events_in n s) ≤ length s
+unfolding events_in
+events_most n s = omega (arith, events_count today n (parted newline s), parted_size newline s)
+
+pub played_length : (l : Limits) (h : Header) (s : List ℕ) → in_ranges h.n h.entry ≡ true → length s ≤ script_size
+    → length (header_line h ++ rest_text l (start h) 0 (events_in h.n s)) ≤ max_listing
+unfolding rest_text events_in
+played_length l h s ok short =
+    let ps = parted newline s in
+    let least : size ps ≤ script_size = omega (arith, parted_size newline s) in
     let lines = lines_length l h.n (start h) 1 ps (omega arith) in
     let count = events_count l h.n ps in
     let kept = (reached_sized h l (events_of h.n ps)).kept in

@@ -1,5 +1,5 @@
 -- The listing of a script: parse, then play over a list of events, then print. Assumes nothing.
-use Rattle.std.specs.Prelude.{ℕ, ◌+◌, cond, List, [], ◌∷◌, ◌++◌, leb, ltb, length, drop}
+use Rattle.std.specs.Prelude.{ℕ, ◌+◌, cond, List, [], ◌∷◌, ◌++◌, leb, ltb, length, drop, Option, Some, None}
 use Rattle.tally.specs.Limits.{Limits, script_size}
 use Rattle.tally.specs.Refusal.{number_of}
 use Rattle.tally.specs.declared.Estimate.{Estimate}
@@ -10,7 +10,6 @@ use Rattle.script.specs.declared.ScriptEvent.{ScriptEvent}
 use Rattle.script.specs.declared.Header.{Header}
 use Rattle.bench_play.specs.Bench.{LineAnswer, start}
 use Rattle.bench_play.specs.Play.{Played, play, bench_after}
-use Rattle.bench_play.specs.declared.Sent.{Sent}
 use Rattle.bench_text.specs.Text.{header_text, line_text, end_text}
 use Rattle.bench_text.specs.declared.ListingLine.{ListingLine}
 use Rattle.bench_text.specs.declared.Shown.{Shown}
@@ -26,16 +25,16 @@ unit_shown (ScriptEvent.Cut u k) = Shown.Number u
 unit_shown (ScriptEvent.KeyOff u) = Shown.Number u
 unit_shown (ScriptEvent.KeyOn u) = Shown.Number u
 
-abbrev pub sent_shown : Sent → Shown
-sent_shown Sent.Nothing = Shown.Dash
-sent_shown (Sent.At k) = Shown.Number k
+abbrev pub sent_shown : Option ℕ → Shown
+sent_shown None = Shown.Dash
+sent_shown (Some k) = Shown.Number k
 
 abbrev pub decision_shown : Estimate → Shown
 decision_shown Estimate.Blank = Shown.Dash
 decision_shown Estimate.Split = Shown.Dash
 decision_shown (Estimate.Mileage v) = Shown.Number v
 
-unfoldable pub line_with : ℕ → ScriptEvent → Refusal → Sent → Estimate → ListingLine
+unfoldable pub line_with : ℕ → ScriptEvent → Option Refusal → Option ℕ → Estimate → ListingLine
 line_with i e k s d =
     record { index = i; letter = event_letter e; unit = unit_shown e; number = number_of k; sent = sent_shown s; decision = decision_shown d }
 
@@ -60,7 +59,7 @@ played_text l h es = header_line h ++ (lines_text 1 (play l (start h) es) ++ end
 -- `index,?,-,8,-,-`: what a malformed line prints (`malformed_line_lem`)
 unfoldable pub malformed_line : ℕ → ListingLine
 malformed_line i =
-    record { index = i; letter = question_mark; unit = Shown.Dash; number = number_of Refusal.Line; sent = Shown.Dash; decision = Shown.Dash }
+    record { index = i; letter = question_mark; unit = Shown.Dash; number = number_of (Some Refusal.Line); sent = Shown.Dash; decision = Shown.Dash }
 
 -- a malformed header prints `0,?,-,8,-,-` and `end,0,0`
 unfoldable pub malformed_text : List ℕ
@@ -89,5 +88,5 @@ over text out = text ++ drop (length text) out
 
 unfoldable pub listing_call : Limits → List ℕ → List ℕ → PrintAnswer
 listing_call l s out =
-    cond (ltb (length out) max_listing) (printed (number_of Refusal.Length) 0 out)
-    (printed (number_of Refusal.None) (length (listing l s)) (over (listing l s) out))
+    cond (ltb (length out) max_listing) (printed (number_of (Some Refusal.Length)) 0 out)
+    (printed (number_of None) (length (listing l s)) (over (listing l s) out))

@@ -2,7 +2,6 @@
 ghost use Rattle.std.specs.Prelude.{◌≡◌};
 ghost use Rattle.bench.specs.Listing.{unit_shown, sent_shown, decision_shown, line_with, malformed_line};
 
-use bench_play::Sent;
 use bench_script::events;
 use bench_text::{ListingLine, Shown};
 use bench_turns::LineOutcome;
@@ -22,13 +21,10 @@ fn unit_shown(e: ScriptEvent) -> Shown
     }
 }
 
-fn sent_shown(s: Sent) -> Shown
-    ensures { result ≡ sent_shown s }
+fn sent_shown(sent: Option<u32>) -> Shown
+    ensures { result ≡ sent_shown sent }
 {
-    match s {
-        Sent::Nothing => Shown::Dash,
-        Sent::At(k) => Shown::Number(k),
-    }
+    sent.map_or(Shown::Dash, Shown::Number)
 }
 
 fn decision_shown(d: Estimate) -> Shown
@@ -46,16 +42,13 @@ fn decision_shown(d: Estimate) -> Shown
 pub(crate) fn listing_line(index: u32, e: ScriptEvent, outcome: LineOutcome) -> ListingLine
     ensures { result ≡ line_with index e outcome.refusal outcome.sent outcome.decision }
 {
-    let refusal = outcome.refusal;
-    let sent = outcome.sent;
-    let decision = outcome.decision;
     ListingLine {
         index,
         letter: events::event_letter(e),
         unit: unit_shown(e),
-        number: tally::number(refusal),
-        sent: sent_shown(sent),
-        decision: decision_shown(decision),
+        number: tally::number(outcome.refusal),
+        sent: sent_shown(outcome.sent),
+        decision: decision_shown(outcome.decision),
     }
 }
 
@@ -68,7 +61,7 @@ pub(crate) fn malformed_line() -> ListingLine
         index: 0,
         letter: events::QUESTION_MARK,
         unit: Shown::Dash,
-        number: tally::number(Refusal::Line),
+        number: tally::number(Some(Refusal::Line)),
         sent: Shown::Dash,
         decision: Shown::Dash,
     }

@@ -1,70 +1,68 @@
 // A script's event lines, one after the other.
-ghost use Rattle.std.specs.Prelude.{◌+◌, ◌≤◌, ◌<◌, length};
+ghost use Rattle.std.specs.Prelude.{◌≤◌, ◌<◌, length};
+ghost use Rattle.std.specs.Iterator.{YieldsFirst, item_count};
 ghost use Rattle.tally.specs.Limits.{today, script_size, senders};
 ghost use Rattle.bench_play.specs.Bench.{start};
-ghost use Rattle.bench_text.specs.InnerText.{Puts};
-ghost use Rattle.bench.specs.InnerLines.{events_from, rest_text, LineAt};
+ghost use Rattle.bench_text.specs.InnerText.{HasRoom, Appends};
+ghost use Rattle.bench.specs.InnerLines.{events_in, rest_text};
 
 use super::lines;
 use bench_script::{events, parts};
+use bench_text::Listing;
 use script::{Header, ScriptEvent};
 
-// A line's event, and where the next line begins.
-#[derive(Clone, Copy)]
-pub struct LineRead {
-    pub event: ScriptEvent,
-    pub next: usize,
+// The event lines of a script from one of them on. Bytes after the last byte 10 are a malformed line.
+#[derive(Drop)]
+pub struct EventLines<'a> {
+    pub n: u8,
+    pub rest: &'a [u8],
 }
 
-// The line at byte p. Bytes after the last byte 10 are a malformed one.
-fn line_at(n: u8, script: &[u8], p: usize) -> LineRead
-    requires { p < length script.now }
-    ensures { LineAt n script.now p result }
-{
-    let rest = &script[p..];
-    let k = parts::before(rest, parts::NEWLINE);
-    if k < rest.len() {
-        return LineRead {
-            event: events::event(n, &rest[..k]),
-            next: p + k + 1,
-        };
-    }
-    LineRead {
-        event: ScriptEvent::Malformed,
-        next: p + k,
+impl<'a> Iterator for EventLines<'a> {
+    type Item = ScriptEvent;
+
+    ghost next_gives = { YieldsFirst (λ lines. events_in lines.n lines.rest.now) };
+
+    ghost remaining = { item_count (λ lines. events_in lines.n lines.rest.now) };
+
+    #[tactic(auto, using(crate::proofs::LineEnds::none_left, crate::proofs::LineEnds::line_ended, crate::proofs::LineEnds::line_left))]
+    fn next(&mut self) -> Option<ScriptEvent> {
+        if self.rest.is_empty() {
+            return None;
+        }
+        match parts::split_once(self.rest, parts::NEWLINE) {
+            Some((line, rest)) => {
+                self.rest = rest;
+                Some(events::event(self.n, line))
+            }
+            None => {
+                self.rest = &[];
+                Some(ScriptEvent::Malformed)
+            }
+        }
     }
 }
 
-// The listing of all lines from byte `from` on, and the final line. The bench stays where it is: of it a line reads one unit and one message, and
+// The listing of the lines after the header, and the final line. The bench stays where it is: of it a line reads one unit and one message, and
 // stores at most one of each.
-pub(crate) fn put_events(
-    script: &[u8],
-    from: usize,
-    h: Header,
-    out: &mut [u8],
-    begin: usize,
-) -> usize
-    requires in_script { from ≤ length script.now }
-    requires script_len_bound { length script.now ≤ script_size }
+pub(crate) fn put_events(rest: &[u8], h: Header, out: &mut Listing)
+    requires rest_len_bound { length rest.now ≤ script_size }
     requires n_nonzero { 0 < h.n }
     requires n_le_senders { h.n ≤ senders }
-    requires room { begin + length (rest_text today (start h) 0 (events_from h.n script.now from)) ≤ length out.old }
-    ensures { Puts out.old begin (rest_text today (start h) 0 (events_from h.n script.now from)) out.new result }
+    requires room { HasRoom out.old (length (rest_text today (start h) 0 (events_in h.n rest.now))) }
+    ensures { Appends out.old (rest_text today (start h) 0 (events_in h.n rest.now)) out.new }
 {
     let mut b = bench_turns::start(h);
-    let mut p = from;
-    let mut at = begin;
     let mut i: u32 = 0;
-    while p < script.len() {
-        let line = line_at(h.n, script, p);
-        let event = line.event;
+    let event_lines = EventLines { n: h.n, rest };
+    for event in event_lines {
         let u = bench_turns::event_unit(event);
         let k = bench_turns::event_place(event);
         let unit = b.units[u];
         let m = b.messages[k];
         let answer = bench_turns::turn(unit, b.kept, m, event);
         let outcome = bench_turns::outcome_of(b.kept, answer);
-        at = bench_text::put_line(out, at, lines::listing_line(i + 1, event, outcome));
+        out.put_line(lines::listing_line(i + 1, event, outcome));
         if bench_turns::is_accepted(outcome) {
             let next = answer.unit;
             b.units[u] = next;
@@ -75,8 +73,7 @@ pub(crate) fn put_events(
                 b.kept += 1;
             }
         }
-        p = line.next;
         i += 1;
     }
-    bench_text::put_end(out, at, i, b.kept)
+    out.put_end(i, b.kept);
 }

@@ -20,29 +20,17 @@ fn play_named<R: Eprint + Files + Print>(rt: &R, name: &str) -> io::Result<()> {
     bench_stream::play(&mut script, &mut io::writer(rt), &mut out)
 }
 
-// The script that argument k names; false where there is no such argument.
-fn play_argument<R: Env + Eprint + Files + Print>(rt: &R, k: usize) -> io::Result<bool> {
-    let mut name = [0u8; NAME_SIZE];
-    match rt.arg(k, &mut name) {
-        Ok(n) => {
-            match str::from_utf8(&name[..n]) {
-                Ok(name) => play_named(rt, name)?,
-                Err(_) => eprintln!(rt; "argument {k} is no text")?,
-            }
-            Ok(true)
-        }
-        Err(FillError::TooLong) => {
-            eprintln!(rt; "argument {k} is too long")?;
-            Ok(true)
-        }
-        Err(FillError::NotPresent) => Ok(false),
-    }
-}
-
 fn main(rt: HostRuntime) -> io::Result<()> {
+    let mut name = [0u8; NAME_SIZE];
+    // std's `args` allocates, so an argument is read by its number until there is none.
     for k in 1..usize::MAX {
-        if !play_argument(&rt, k)? {
-            break;
+        match rt.arg(k, &mut name) {
+            Ok(n) => match str::from_utf8(&name[..n]) {
+                Ok(name) => play_named(&rt, name)?,
+                Err(_) => eprintln!(rt; "argument {k} is no text")?,
+            },
+            Err(FillError::TooLong) => eprintln!(rt; "argument {k} is too long")?,
+            Err(FillError::NotPresent) => break,
         }
     }
     Ok(())

@@ -1,10 +1,11 @@
 -- Each line is the call on its unit's own log and image, which answers what the bench's unit does. Assumes nothing.
+use Rattle.std.specs.Prelude.{Option, Some}
 use Prim.Native.Nat.{ℕ, ◌<◌}
 use mathlib.Core.Path.{◌≡◌, refl, ap, subst, ◌∙◌}
 use mathlib.Core.Bool.{Bool, true, false}
 use mathlib.Core.List.{List}
 use mathlib.Core.Logic.{inl, inr}
-use mathlib.Core.Option.{Option, none, some}
+use mathlib.Core.Option.{Option as Maybe, none, some}
 use native.Mathlib.Omega.{arith}
 use lib.Dec.{leb}
 use lib.ListN.{get_elem?, length-replicate}
@@ -47,7 +48,7 @@ use Rattle.bench_history.proofs.Lists.{past_taken}
 use Rattle.bench_history.proofs.Simulation.{simulated, after_inv}
 
 -- what is claimed of a line by whether it is a call
-abbrev LineClaim : Limits → B.ByteWorld → Bench → ScriptEvent → Option CallAnswer → Type 0
+abbrev LineClaim : Limits → B.ByteWorld → Bench → ScriptEvent → Maybe CallAnswer → Type 0
 LineClaim l c b e none = NoCall c e (answer l b e).refusal
 LineClaim l c b e (some x) = AsUnit l b e x
 
@@ -62,7 +63,7 @@ unit_number l b (ScriptEvent.KeyOff u) x h = absurd h
 unit_number l b (ScriptEvent.KeyOn u) x h = rw h
 
 -- a line that is no call and not K is refused
-no_call_refused : (c : B.ByteWorld) (e : ScriptEvent) (r : Refusal) → ((u : ℕ) → e ≡ ScriptEvent.KeyOff u → ⊥) → NoCall c e r
+no_call_refused : (c : B.ByteWorld) (e : ScriptEvent) (r : Option Refusal) → ((u : ℕ) → e ≡ ScriptEvent.KeyOff u → ⊥) → NoCall c e r
     → number_of r ≡ 0 → ⊥
 no_call_refused c ScriptEvent.Malformed r other q zero = omega (arith, ap number_of q, zero)
 no_call_refused c (ScriptEvent.Propose u v) r other q zero = omega (arith, ap number_of q.0, zero)
@@ -100,8 +101,8 @@ module _ (l : Limits) (sane : Sane l) (n : ℕ) (b : Bench) (sized : Sized b) (l
         go Down e = down e
 
     -- a delivery or a cut of it: to a down unit, of no message sent, or the call
-    by_delivery : (P : Option CallAnswer → Type 0) (k : ℕ) → (delivery l b u k ≡ refuses (unit_at b u) Refusal.Power → IsDown c u → P none)
-        → (delivery l b u k ≡ refuses (unit_at b u) Refusal.Unsent → IsUp c u → get_elem? c.sent k ≡ none → P none)
+    by_delivery : (P : Maybe CallAnswer → Type 0) (k : ℕ) → (delivery l b u k ≡ refuses (unit_at b u) (Some Refusal.Power) → IsDown c u → P none)
+        → (delivery l b u k ≡ refuses (unit_at b u) (Some Refusal.Unsent) → IsUp c u → get_elem? c.sent k ≡ none → P none)
         → P (some (answered l (delivery l b u k)))
         → P (deliver_with l (c.units u).log (c.units u).image (get_elem? c.sent k))
     unfolding delivery delivery_conditions unless first_refusal
@@ -154,11 +155,11 @@ module _ (l : Limits) (sane : Sane l) (n : ℕ) (b : Bench) (sized : Sized b) (l
       answers : (x : CallAnswer) → call_of l c e ≡ some x → AsUnit l b e x
       answers x q = subst (LineClaim l c b e) q (own e below)
 
-      number : (x : CallAnswer) → call_of l c e ≡ some x → ((answer l b e).refusal ≡ Refusal.Full → ⊥)
+      number : (x : CallAnswer) → call_of l c e ≡ some x → ((answer l b e).refusal ≡ Some Refusal.Full → ⊥)
           → x.number ≡ number_of (answer l b e).refusal
       number x q other = unit_number l b e x (answers x q) ∙ own_number l b e other
 
-      made : number_of (answer l b e).refusal ≡ 0 → ((u : ℕ) → e ≡ ScriptEvent.KeyOff u → ⊥) → (o : Option CallAnswer) → call_of l c e ≡ o
+      made : number_of (answer l b e).refusal ≡ 0 → ((u : ℕ) → e ≡ ScriptEvent.KeyOff u → ⊥) → (o : Maybe CallAnswer) → call_of l c e ≡ o
           → (x : CallAnswer) × ((call_of l c e ≡ some x) × (x.number ≡ 0))
       made zero other none q = absurd (no_call_refused c e _ other (subst (LineClaim l c b e) q (own e below)) zero)
       made zero other (some x) q = (x, (q, unit_number l b e x (answers x q) ∙ accepts l b e zero))

@@ -1,4 +1,5 @@
 -- A script that is read has a header in range, and events of its units. Assumes nothing.
+use Rattle.std.specs.Prelude.{Option, Some, None}
 use Prim.Native.Nat.{ℕ, ◌<◌}
 use mathlib.Core.Path.{◌≡◌, refl, subst}
 use mathlib.Core.Bool.{Bool, true, false, cond}
@@ -12,7 +13,6 @@ use Rattle.script.specs.Parts.{newline, parted}
 use Rattle.script.specs.Script.{in_ranges, header_of, events_of, Script, malformed, script, with_header, from_lines, parse}
 use Rattle.script.specs.declared.ScriptEvent.{ScriptEvent}
 use Rattle.script.specs.declared.Header.{Header}
-use Rattle.script.specs.declared.HeaderRead.{HeaderRead}
 use Rattle.script.proofs.EventLines.{event_unit_lem}
 use Rattle.script.proofs.HeaderLines.{header_range}
 use Rattle.bench.specs.Listing.{played_text, malformed_text, script_text, listing}
@@ -45,9 +45,9 @@ script_in : (s : List ℕ) → ScriptIn (parse s)
 unfolding parse
 script_in s = lines (parted newline s)
   where
-    read : (l : List ℕ) (r : HeaderRead) → header_of l ≡ r → (ps : List (List ℕ)) → ScriptIn (with_header r ps)
-    read l (HeaderRead.Is h) e ps = let range = header_range l h e in (range, of_lines h.n (units_some h range) ps)
-    read l HeaderRead.Malformed e ps = tt
+    read : (l : List ℕ) (r : Option Header) → header_of l ≡ r → (ps : List (List ℕ)) → ScriptIn (with_header r ps)
+    read l (Some h) e ps = let range = header_range l h e in (range, of_lines h.n (units_some h range) ps)
+    read l None e ps = tt
 
     lines : (ls : List (List ℕ)) → ScriptIn (from_lines ls)
     lines [] = tt

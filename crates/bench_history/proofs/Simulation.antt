@@ -1,4 +1,5 @@
 -- A played script is a history over contents: the bench and the world after each line. Assumes nothing.
+use Rattle.std.specs.Prelude.{Option, Some, None}
 use Prim.Native.Nat.{ℕ, zero, suc, ◌≤◌, ◌<◌}
 use mathlib.Core.Path.{◌≡◌, refl, sym, ap, ◌∙◌}
 use mathlib.Core.Bool.{Bool, true, false, cond}
@@ -30,9 +31,8 @@ use Rattle.bench_play.specs.Bench as P
 use Rattle.bench_play.specs.Bench.{LineAnswer, fresh_units, start, no_unit, unit_at, refused, accepted, with_unit, with_message}
 use Rattle.bench_play.specs.Play.{Played, answer, play, bench_after, unit_answer}
 use Rattle.bench_play.specs.declared.Bench.{Bench}
-use Rattle.bench_play.specs.declared.Sent.{Sent}
-use Rattle.bench_history.specs.History.{setup_of, Below, of_accepted, contents_event, history, event_proposals}
-use Rattle.bench_history.specs.History.{proposals, decided_of, decisions, Shows, contents_after}
+use Rattle.bench_history.specs.History.{setup_of, Below, of_accepted, contents_event, history, event_proposals, proposals, decided_of, decisions, Shows}
+use Rattle.bench_history.specs.History.{contents_after}
 use Rattle.bench_play.specs.Claims.{Sized}
 use Rattle.bench_history.proofs.Accepted.{Went, went}
 use Rattle.bench_history.proofs.Lists.{flat_snoc}
@@ -56,7 +56,7 @@ After l n lines w e r = Shows n r.bench (lines ++ (played e r ∷ [])) (run (ste
 module _ (l : Limits) (n : ℕ) (high : n ≤ senders) (b : Bench) (sized : Sized b) (lines : List Played) (w : ContentsWorld) (shows : Shows n b lines w)
     (e : ScriptEvent) (below : event_unit e < n) where
   -- a refused line leaves all as it was
-  after_refused : (k : Refusal) → (number_of k ≡ 0 → ⊥) → After l n lines w e (refused b k)
+  after_refused : (k : Option Refusal) → (number_of k ≡ 0 → ⊥) → After l n lines w e (refused b k)
   unfolding run proposals decisions
   after_refused k some =
       let no = ne_eqb (number_of k) 0 some in
@@ -70,7 +70,7 @@ module _ (l : Limits) (n : ℕ) (high : n ≤ senders) (b : Bench) (sized : Size
 
   module _ (a : Answer) (gone : Went w (run (step l n) w (contents_event e)) (event_proposals e) (event_unit e) a) where
     -- an accepted line: the unit is its answer's, and the messages are those sent
-    after_accepted : (b' : Bench) (s : Sent) → b'.units ≡ set b.units (event_unit e) a.unit
+    after_accepted : (b' : Bench) (s : Option ℕ) → b'.units ≡ set b.units (event_unit e) a.unit
         → added w.sent (unless_empty a.message.kind a.message) ≡ take b'.kept b'.messages
         → After l n lines w e (accepted b' s a.decision)
     unfolding unit_at proposals decisions
@@ -91,7 +91,7 @@ module _ (l : Limits) (n : ℕ) (high : n ≤ senders) (b : Bench) (sized : Size
       by_answer (After l n lines w e) l b e
       (record {
         refuses = λ some. after_refused (unit_answer l b e).refusal some;
-        full = λ ok some full. after_refused Refusal.Full (λ z. absurd (omega arith));
+        full = λ ok some full. after_refused (Some Refusal.Full) (λ z. absurd (omega arith));
         quiet = quiet;
         sends = sends;
       })
@@ -105,13 +105,13 @@ module _ (l : Limits) (n : ℕ) (high : n ≤ senders) (b : Bench) (sized : Size
       gone : number_of a.refusal ≡ 0 → Went w (run (step l n) w (contents_event e)) (event_proposals e) u a
       gone ok = went l n b sized lines w shows e below ok
 
-      quiet : number_of a.refusal ≡ 0 → a.message.kind ≡ Empty → After l n lines w e (accepted (with_unit b u a.unit) Sent.Nothing a.decision)
-      quiet ok empty = after_accepted a (gone ok) (with_unit b u a.unit) Sent.Nothing refl (rw empty shows.sent)
+      quiet : number_of a.refusal ≡ 0 → a.message.kind ≡ Empty → After l n lines w e (accepted (with_unit b u a.unit) None a.decision)
+      quiet ok empty = after_accepted a (gone ok) (with_unit b u a.unit) None refl (rw empty shows.sent)
 
       sends : number_of a.refusal ≡ 0 → (a.message.kind ≡ Empty → ⊥) → b.kept < places
-          → After l n lines w e (accepted (with_message (with_unit b u a.unit) a.message) (Sent.At b.kept) a.decision)
+          → After l n lines w e (accepted (with_message (with_unit b u a.unit) a.message) (Some b.kept) a.decision)
       sends ok some room =
-          after_accepted a (gone ok) (with_message (with_unit b u a.unit) a.message) (Sent.At b.kept) refl
+          after_accepted a (gone ok) (with_message (with_unit b u a.unit) a.message) (Some b.kept) refl
           (added_some w.sent a.message.kind a.message some ∙ ap (λ ms. ms ++ (a.message ∷ [])) shows.sent
           ∙ sym (rw add-one (take-suc-set b.messages b.kept a.message (omega (arith, sized.messages)))))
 

@@ -1,5 +1,5 @@
 -- Everything that is claimed of a played script, in one record. Assumes nothing.
-use Rattle.std.specs.Prelude.{ℕ, ◌≤◌, ◌<◌, ◌≡◌, length}
+use Rattle.std.specs.Prelude.{ℕ, ◌≤◌, ◌<◌, ◌≡◌, length, Some, None}
 use mathlib.Core.List.{List, [], ◌∷◌, ◌++◌, map, Memᴰ}
 use Rattle.tally.specs.Limits.{Limits, places}
 use Rattle.tally.specs.Refusal.{number_of}
@@ -40,7 +40,7 @@ pub record ProposedIn (v : ℕ) (lines : List Played) : Type 0 where
 abbrev pub met : List ℕ
 met =
     map number_of
-    (Refusal.None ∷ Refusal.Addressee ∷ Refusal.Mileage ∷ Refusal.Line ∷ Refusal.Power ∷ Refusal.Unsent ∷ Refusal.Full ∷ [])
+    (None ∷ Some Refusal.Addressee ∷ Some Refusal.Mileage ∷ Some Refusal.Line ∷ Some Refusal.Power ∷ Some Refusal.Unsent ∷ Some Refusal.Full ∷ [])
 
 -- of the header h and the events es
 pub record Covered (l : Limits) (h : Header) (es : List ScriptEvent) : Type 0 where
@@ -65,9 +65,9 @@ pub record Covered (l : Limits) (h : Header) (es : List ScriptEvent) : Type 0 wh
   pub decision_proposed : EachLine es (λ before e.
       (v : ℕ) → (answer l (reached l h before) e).decision ≡ Mileage v → ProposedIn v (played_lines l h before))
   -- 11 exactly where no place is left for a message
-  pub full_only : EachLine es (λ before e. (answer l (reached l h before) e).refusal ≡ Refusal.Full → NoPlace l (reached l h before) e)
+  pub full_only : EachLine es (λ before e. (answer l (reached l h before) e).refusal ≡ Some Refusal.Full → NoPlace l (reached l h before) e)
   pub full_met : EachLine es (λ before e.
-      WouldSend l (reached l h before) e → (reached l h before).kept ≡ places → (answer l (reached l h before) e).refusal ≡ Refusal.Full)
+      WouldSend l (reached l h before) e → (reached l h before).kept ≡ places → (answer l (reached l h before) e).refusal ≡ Some Refusal.Full)
   -- a refused line changes nothing
   pub refused_stays : EachLine es (λ before e.
       (number_of (answer l (reached l h before) e).refusal ≡ 0 → ⊥) → Unchanged (reached l h before) (answer l (reached l h before) e))

@@ -1,4 +1,5 @@
 -- What it says that a unit accepts. Assumes nothing.
+use Rattle.std.specs.Prelude.{Some}
 use Prim.Native.Nat.{ℕ, ◌≤◌, ◌<◌}
 use mathlib.Core.Path.{◌≡◌, refl, sym, ap, ◌∙◌}
 use mathlib.Core.Bool.{Bool, true, false, cond}
@@ -60,12 +61,12 @@ delivered l b u k zero =
     record { up = is_up_lem _ (not-false _ none.0); sent = leb-false _ _ none.1.0; same = a.1 }
 
 -- 9 before 10, whatever the message; and 10 before the unit's own numbers
-pub delivery_down : (l : Limits) (b : Bench) (u k : ℕ) → (unit_at b u).power ≡ Down → delivery l b u k ≡ refuses (unit_at b u) Refusal.Power
+pub delivery_down : (l : Limits) (b : Bench) (u k : ℕ) → (unit_at b u).power ≡ Down → delivery l b u k ≡ refuses (unit_at b u) (Some Refusal.Power)
 unfolding delivery delivery_conditions unless first_refusal
 delivery_down l b u k down = rw down
 
 pub delivery_unsent : (l : Limits) (b : Bench) (u k : ℕ) → (unit_at b u).power ≡ Up → b.kept ≤ k
-    → delivery l b u k ≡ refuses (unit_at b u) Refusal.Unsent
+    → delivery l b u k ≡ refuses (unit_at b u) (Some Refusal.Unsent)
 unfolding delivery delivery_conditions unless first_refusal
 delivery_unsent l b u k up unsent = rw (up, le-leb b.kept k unsent)
 
@@ -106,10 +107,10 @@ on_accepted x zero =
     (is_down_lem _ ((first_lowest _ (omega arith, tt)).accepted a.0).0, a.1)
 
 -- unless 11 refuses it, the number of a line is its unit's own
-pub own_number : (l : Limits) (b : Bench) (e : ScriptEvent) → ((answer l b e).refusal ≡ Refusal.Full → ⊥)
+pub own_number : (l : Limits) (b : Bench) (e : ScriptEvent) → ((answer l b e).refusal ≡ Some Refusal.Full → ⊥)
     → number_of (unit_answer l b e).refusal ≡ number_of (answer l b e).refusal
 own_number l b e =
-    by_answer (λ (r : LineAnswer). (r.refusal ≡ Refusal.Full → ⊥) → number_of (unit_answer l b e).refusal ≡ number_of r.refusal) l b e
+    by_answer (λ (r : LineAnswer). (r.refusal ≡ Some Refusal.Full → ⊥) → number_of (unit_answer l b e).refusal ≡ number_of r.refusal) l b e
     (record {
       refuses = λ some other. refl;
       quiet = λ ok empty other. ok;

@@ -1,4 +1,5 @@
 -- The numbers that an event can be refused with; 11 is met exactly where it would send and no place is left. Assumes nothing.
+use Rattle.std.specs.Prelude.{Option, Some, None}
 use Prim.Native.Nat.{ℕ, ◌≤◌, ◌<◌}
 use mathlib.Core.Path.{◌≡◌, refl, ap, ◌∙◌}
 use mathlib.Core.Bool.{Bool, true, false, cond}
@@ -29,33 +30,33 @@ use Rattle.bench_play.proofs.Settled.{by_answer}
 -- ---- a unit's own refusals
 
 -- a fact of every refusal that unit u of the bench can give
-pub record EachRefusal (Q : Refusal → Type 0) (l : Limits) (b : Bench) (u : ℕ) : Type 0 where
-  pub none : Q Refusal.None
-  pub line : Q Refusal.Line
-  pub power : Q Refusal.Power
-  pub mileage : Q Refusal.Mileage
-  pub unsent : Q Refusal.Unsent
-  pub addressee : Q Refusal.Addressee
+pub record EachRefusal (Q : Option Refusal → Type 0) (l : Limits) (b : Bench) (u : ℕ) : Type 0 where
+  pub none : Q None
+  pub line : Q (Some Refusal.Line)
+  pub power : Q (Some Refusal.Power)
+  pub mileage : Q (Some Refusal.Mileage)
+  pub unsent : Q (Some Refusal.Unsent)
+  pub addressee : Q (Some Refusal.Addressee)
   -- a message sent that is malformed, or would close the last round
-  pub message : (k : ℕ) → k < b.kept → message_ok l (message_at b k) ≡ false → Q Refusal.Message
-  pub last : (k : ℕ) → k < b.kept → closes_last l (unit_at b u) (message_at b k) ≡ true → Q Refusal.LastRound
+  pub message : (k : ℕ) → k < b.kept → message_ok l (message_at b k) ≡ false → Q (Some Refusal.Message)
+  pub last : (k : ℕ) → k < b.kept → closes_last l (unit_at b u) (message_at b k) ≡ true → Q (Some Refusal.LastRound)
 
-module _ (Q : Refusal → Type 0) where
+module _ (Q : Option Refusal → Type 0) where
   -- of each condition that holds
   abbrev Holding : List Condition → Type 0
   Holding [] = Unit
-  Holding (r ∷ rs) = (r.holds ≡ true → Q r.refusal) × Holding rs
+  Holding (r ∷ rs) = (r.holds ≡ true → Q (Some r.refusal)) × Holding rs
 
-  first_of : Q Refusal.None → (cs : List Condition) → Holding cs → Q (first_refusal cs)
+  first_of : Q None → (cs : List Condition) → Holding cs → Q (first_refusal cs)
   unfolding first_refusal
   first_of none [] h = none
   first_of none (r ∷ rs) h = go r.holds refl (first_of none rs h.1)
     where
-      go : (t : Bool) → r.holds ≡ t → Q (first_refusal rs) → Q (cond t r.refusal (first_refusal rs))
+      go : (t : Bool) → r.holds ≡ t → Q (first_refusal rs) → Q (cond t (Some r.refusal) (first_refusal rs))
       go true e later = h.0 e
       go false e later = later
 
-  unless_of : Q Refusal.None → (cs : List Condition) (u : U.Unit) (a : Answer) → Holding cs → (number_of (first_refusal cs) ≡ 0 → Q a.refusal)
+  unless_of : Q None → (cs : List Condition) (u : U.Unit) (a : Answer) → Holding cs → (number_of (first_refusal cs) ≡ 0 → Q a.refusal)
       → Q (unless cs u a).refusal
   unfolding unless
   unless_of none cs u a h accepted = go (eqb (number_of (first_refusal cs)) 0) refl
@@ -138,9 +139,9 @@ sending l b (ScriptEvent.KeyOff u) w = absurd (w.message (rw (off_accepted (unit
 sending l b (ScriptEvent.KeyOn u) w = absurd (w.message (rw (on_accepted (unit_at b u) w.accepted).1))
 
 -- of any bench that is not overfull
-pub full_only : (l : Limits) (b : Bench) → Sized b → (e : ScriptEvent) → (answer l b e).refusal ≡ Refusal.Full → NoPlace l b e
+pub full_only : (l : Limits) (b : Bench) → Sized b → (e : ScriptEvent) → (answer l b e).refusal ≡ Some Refusal.Full → NoPlace l b e
 full_only l b sized e =
-    by_answer (λ (r : LineAnswer). r.refusal ≡ Refusal.Full → NoPlace l b e) l b e
+    by_answer (λ (r : LineAnswer). r.refusal ≡ Some Refusal.Full → NoPlace l b e) l b e
     (record {
       refuses = λ some q. absurd (omega (arith, own_below l b e, ap number_of q));
       quiet = λ ok empty q. absurd (omega (arith, ap number_of q));
@@ -151,9 +152,9 @@ full_only l b sized e =
     })
 
 -- and of any bench at all
-pub full_met : (l : Limits) (b : Bench) (e : ScriptEvent) → WouldSend l b e → places ≤ b.kept → (answer l b e).refusal ≡ Refusal.Full
+pub full_met : (l : Limits) (b : Bench) (e : ScriptEvent) → WouldSend l b e → places ≤ b.kept → (answer l b e).refusal ≡ Some Refusal.Full
 full_met l b e would full =
-    by_answer (λ (r : LineAnswer). r.refusal ≡ Refusal.Full) l b e
+    by_answer (λ (r : LineAnswer). r.refusal ≡ Some Refusal.Full) l b e
     (record {
       refuses = λ some. absurd (some would.accepted);
       quiet = λ ok empty. absurd (would.message empty);

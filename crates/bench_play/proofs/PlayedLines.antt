@@ -1,4 +1,5 @@
 -- The lines of a played script, one by one: where each stands, how many send, and with which numbers. Assumes nothing.
+use Rattle.std.specs.Prelude.{Some, None}
 use Prim.Native.Nat.{ℕ, zero, suc, ◌+◌, ◌<◌}
 use mathlib.Core.Path.{◌≡◌, refl, ap, ◌∙◌}
 use mathlib.Core.Bool.{Bool, true, false, cond}
@@ -21,7 +22,6 @@ use Rattle.script.specs.declared.Header.{Header}
 use Rattle.bench_play.specs.Bench.{LineAnswer, fresh_units, start, no_unit, unit_at, message_at, with_unit, with_message}
 use Rattle.bench_play.specs.Play.{Played, unit_answer, answer, play, bench_after}
 use Rattle.bench_play.specs.declared.Bench.{Bench}
-use Rattle.bench_play.specs.declared.Sent.{Sent}
 use Rattle.bench_play.specs.Claims.{Sized, KeptStays, Unchanged, rising, sent_numbers}
 use Rattle.bench_play.proofs.Settled.{by_answer}
 
@@ -145,7 +145,7 @@ as_many l b (e ∷ es) = ap suc (as_many l (answer l b e).bench es)
 
 -- of a line's answer: nothing is sent, or the message of the next number
 abbrev TakesNext : Bench → LineAnswer → Type 0
-TakesNext b r = ((r.sent ≡ Sent.Nothing) × (r.bench.kept ≡ b.kept)) ⊎ ((r.sent ≡ Sent.At b.kept) × (r.bench.kept ≡ b.kept + 1))
+TakesNext b r = ((r.sent ≡ None) × (r.bench.kept ≡ b.kept)) ⊎ ((r.sent ≡ Some b.kept) × (r.bench.kept ≡ b.kept + 1))
 
 takes_next : (l : Limits) (b : Bench) (e : ScriptEvent) → TakesNext b (answer l b e)
 unfolding with_unit with_message

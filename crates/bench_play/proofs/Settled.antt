@@ -1,4 +1,5 @@
 -- An answer of the bench, by cases. Assumes nothing.
+use Rattle.std.specs.Prelude.{Some, None}
 use Prim.Native.Nat.{ℕ, ◌≤◌, ◌<◌}
 use mathlib.Core.Path.{◌≡◌, refl, sym, ap, ◌∙◌}
 use mathlib.Core.Bool.{Bool, true, false, cond}
@@ -21,7 +22,6 @@ use Rattle.script.specs.declared.ScriptEvent.{ScriptEvent}
 use Rattle.bench_play.specs.Bench.{LineAnswer, refused, accepted, no_place_left, with_unit, with_message, send, settle}
 use Rattle.bench_play.specs.Play.{unit_answer, answer}
 use Rattle.bench_play.specs.declared.Bench.{Bench}
-use Rattle.bench_play.specs.declared.Sent.{Sent}
 
 is_empty_lem : (k : Kind) → is_empty k ≡ true → k ≡ Empty
 is_empty_lem Empty h = refl
@@ -36,32 +36,32 @@ not_empty k h e = never (sym h ∙ ap is_empty e)
 -- the bench's answer to an answer a of unit u
 pub record Settling (P : LineAnswer → Type 0) (b : Bench) (u : ℕ) (a : Answer) : Type 0 where
   pub refuses : (number_of a.refusal ≡ 0 → ⊥) → P (refused b a.refusal)
-  pub quiet : number_of a.refusal ≡ 0 → a.message.kind ≡ Empty → P (accepted (with_unit b u a.unit) Sent.Nothing a.decision)
-  pub full : number_of a.refusal ≡ 0 → (a.message.kind ≡ Empty → ⊥) → places ≤ b.kept → P (refused b Refusal.Full)
+  pub quiet : number_of a.refusal ≡ 0 → a.message.kind ≡ Empty → P (accepted (with_unit b u a.unit) None a.decision)
+  pub full : number_of a.refusal ≡ 0 → (a.message.kind ≡ Empty → ⊥) → places ≤ b.kept → P (refused b (Some Refusal.Full))
   pub sends : number_of a.refusal ≡ 0 → (a.message.kind ≡ Empty → ⊥) → b.kept < places
-      → P (accepted (with_message (with_unit b u a.unit) a.message) (Sent.At b.kept) a.decision)
+      → P (accepted (with_message (with_unit b u a.unit) a.message) (Some b.kept) a.decision)
 
 pub by_settle : (P : LineAnswer → Type 0) (b : Bench) (u : ℕ) (a : Answer) → Settling P b u a → P (settle b u a)
 unfolding settle send no_place_left
 by_settle P b u a s = number (eqb (number_of a.refusal) 0) refl
   where
     place : number_of a.refusal ≡ 0 → (a.message.kind ≡ Empty → ⊥) → (t : Bool) → leb places b.kept ≡ t
-        → P (cond t (refused b Refusal.Full) (accepted (with_message (with_unit b u a.unit) a.message) (Sent.At b.kept) a.decision))
+        → P (cond t (refused b (Some Refusal.Full)) (accepted (with_message (with_unit b u a.unit) a.message) (Some b.kept) a.decision))
     place zero some true e = s.full zero some (leb-true _ _ e)
     place zero some false e = s.sends zero some (leb-false _ _ e)
 
     kind : number_of a.refusal ≡ 0 → (t : Bool) → is_empty a.message.kind ≡ t
-        → P (cond t (accepted (with_unit b u a.unit) Sent.Nothing a.decision) (send b u a))
+        → P (cond t (accepted (with_unit b u a.unit) None a.decision) (send b u a))
     kind zero true e = s.quiet zero (is_empty_lem _ e)
     kind zero false e = place zero (not_empty _ e) (leb places b.kept) refl
 
     number : (t : Bool) → eqb (number_of a.refusal) 0 ≡ t
-        → P (cond t (cond (is_empty a.message.kind) (accepted (with_unit b u a.unit) Sent.Nothing a.decision) (send b u a)) (refused b a.refusal))
+        → P (cond t (cond (is_empty a.message.kind) (accepted (with_unit b u a.unit) None a.decision) (send b u a)) (refused b a.refusal))
     number true e = kind (eqb-true _ _ e) (is_empty a.message.kind) refl
     number false e = s.refuses (eqb-false _ _ e)
 
 -- a malformed line is refused
-pub answer_line : (l : Limits) (b : Bench) → answer l b ScriptEvent.Malformed ≡ refused b Refusal.Line
+pub answer_line : (l : Limits) (b : Bench) → answer l b ScriptEvent.Malformed ≡ refused b (Some Refusal.Line)
 unfolding answer unit_answer settle
 answer_line l b = refl
 

@@ -1,5 +1,5 @@
 -- The bench: its units and its message places. Assumes nothing.
-use Rattle.std.specs.Prelude.{ℕ, zero, suc, ◌+◌, Bool, cond, List, [], ◌∷◌, ◌++◌, leb, eqb, get_or, set, replicate}
+use Rattle.std.specs.Prelude.{ℕ, zero, suc, ◌+◌, Bool, cond, List, [], ◌∷◌, ◌++◌, leb, eqb, get_or, set, replicate, Option, Some, None}
 use Rattle.tally.specs.Limits.{places, senders}
 use Rattle.tally.specs.Refusal.{number_of}
 use Rattle.tally.specs.declared.Engine.TheVariants.{B}
@@ -15,7 +15,6 @@ use Rattle.consensus.specs.declared.Power.TheVariants.{Down}
 use Rattle.consensus.specs.declared.Unit as U
 use Rattle.script.specs.declared.Header.{Header}
 use Rattle.bench_play.specs.declared.Bench.{Bench}
-use Rattle.bench_play.specs.declared.Sent.{Sent}
 
 -- ---- at the start
 
@@ -57,16 +56,16 @@ message_at b k = get_or b.messages k empty_message
 -- what an event is answered: a refusal or None, the bench after it, the message sent, and a mileage decided or blank
 pub record LineAnswer : Type 0 where
   pub bench : Bench
-  pub refusal : Refusal
-  pub sent : Sent
+  pub refusal : Option Refusal
+  pub sent : Option ℕ
   pub decision : Estimate
 
 -- a refused event changes nothing, sends nothing and decides nothing
-abbrev pub refused : Bench → Refusal → LineAnswer
-refused b k = record { bench = b; refusal = k; sent = Sent.Nothing; decision = Blank }
+abbrev pub refused : Bench → Option Refusal → LineAnswer
+refused b k = record { bench = b; refusal = k; sent = None; decision = Blank }
 
-abbrev pub accepted : Bench → Sent → Estimate → LineAnswer
-accepted b s d = record { bench = b; refusal = Refusal.None; sent = s; decision = d }
+abbrev pub accepted : Bench → Option ℕ → Estimate → LineAnswer
+accepted b s d = record { bench = b; refusal = None; sent = s; decision = d }
 
 -- 11: no place is left, with that many messages kept
 unfoldable pub no_place_left : ℕ → Bool
@@ -83,12 +82,12 @@ with_message b m = record { units = b.units; messages = set b.messages b.kept m;
 -- 11 is last, and refuses the whole event
 unfoldable pub send : Bench → ℕ → Answer → LineAnswer
 send b u a =
-    cond (no_place_left b.kept) (refused b Refusal.Full)
-    (accepted (with_message (with_unit b u a.unit) a.message) (Sent.At b.kept) a.decision)
+    cond (no_place_left b.kept) (refused b (Some Refusal.Full))
+    (accepted (with_message (with_unit b u a.unit) a.message) (Some b.kept) a.decision)
 
 -- what unit u's answer makes of the bench
 unfoldable pub settle : Bench → ℕ → Answer → LineAnswer
 settle b u a =
     cond (eqb (number_of a.refusal) 0)
-    (cond (is_empty a.message.kind) (accepted (with_unit b u a.unit) Sent.Nothing a.decision) (send b u a))
+    (cond (is_empty a.message.kind) (accepted (with_unit b u a.unit) None a.decision) (send b u a))
     (refused b a.refusal)

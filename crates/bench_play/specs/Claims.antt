@@ -1,5 +1,5 @@
 -- What is claimed of the bench's answers. Assumes nothing.
-use Rattle.std.specs.Prelude.{ℕ, zero, suc, ◌≤◌, ◌<◌, ◌≡◌, length}
+use Rattle.std.specs.Prelude.{ℕ, zero, suc, ◌≤◌, ◌<◌, ◌≡◌, length, Option, Some, None}
 use mathlib.Core.List.{List, [], ◌∷◌, flat_map}
 use Rattle.tally.specs.Limits.{Limits, senders, places}
 use Rattle.tally.specs.Refusal.{number_of}
@@ -9,7 +9,6 @@ use Rattle.script.specs.declared.ScriptEvent.{ScriptEvent}
 use Rattle.bench_play.specs.Play.{Played, unit_answer}
 use Rattle.bench_play.specs.Bench.{LineAnswer, message_at}
 use Rattle.bench_play.specs.declared.Bench.{Bench}
-use Rattle.bench_play.specs.declared.Sent.{Sent}
 
 -- 16 units and 128 places, as the code's types say, of which at most 128 are filled
 pub record Sized (b : Bench) : Type 0 where
@@ -25,7 +24,7 @@ pub record KeptStays (b c : Bench) : Type 0 where
 -- a refused line changes nothing, sends nothing and decides nothing
 pub record Unchanged (b : Bench) (r : LineAnswer) : Type 0 where
   pub bench : r.bench ≡ b
-  pub sent : r.sent ≡ Sent.Nothing
+  pub sent : r.sent ≡ None
   pub decision : r.decision ≡ Blank
 
 -- the event would send: its unit accepts it, with a message
@@ -50,9 +49,9 @@ rising k zero = []
 rising k (suc j) = k ∷ rising (suc k) j
 
 -- the message numbers shown, in order: one for each line that sent a message
-abbrev pub sent_of : Sent → List ℕ
-sent_of Sent.Nothing = []
-sent_of (Sent.At k) = k ∷ []
+abbrev pub sent_of : Option ℕ → List ℕ
+sent_of None = []
+sent_of (Some k) = k ∷ []
 
 unfoldable pub sent_numbers : List Played → List ℕ
 sent_numbers lines = flat_map (λ (p : Played). sent_of p.answer.sent) lines

@@ -1,5 +1,5 @@
 -- Playing events on the bench: each runs a method of one unit. Assumes nothing.
-use Rattle.std.specs.Prelude.{ℕ, not, cond, List, [], ◌∷◌, leb, eqb}
+use Rattle.std.specs.Prelude.{ℕ, not, cond, List, [], ◌∷◌, leb, eqb, Some}
 use Rattle.tally.specs.Limits.{Limits}
 use Rattle.tally.specs.Refusal.{number_of}
 use Rattle.tally.specs.declared.Refusal.{Refusal}
@@ -25,7 +25,7 @@ cut_short a = cond (eqb (number_of a.refusal) 0) (key_off a.unit) a
 
 -- what the unit of an event answers; a malformed line is no unit's, and refused with 8
 unfoldable pub unit_answer : Limits → Bench → ScriptEvent → Answer
-unit_answer l b ScriptEvent.Malformed = refuses no_unit Refusal.Line
+unit_answer l b ScriptEvent.Malformed = refuses no_unit (Some Refusal.Line)
 unit_answer l b (ScriptEvent.Propose u v) = propose l (unit_at b u) v
 unit_answer l b (ScriptEvent.Deliver u k) = delivery l b u k
 unit_answer l b (ScriptEvent.Cut u k) = cut_short (delivery l b u k)

@@ -5,17 +5,10 @@ use consensus::Unit;
 use contents::Message;
 use tally::limits;
 
-// The units, the message places, and how many of these are filled, from the front.
-#[derive(Clone, Copy)]
+// The units, the message places, and how many of these are filled, from the front: the scope paper's form.
+#[derive(Clone, Copy, PartialEq, Eq)]
 pub struct Bench {
     pub units: [Unit; limits::SENDERS],
     pub messages: [Message; limits::PLACES],
     pub kept: u32,
-}
-
-// The number of the message that an event sent.
-#[derive(Clone, Copy)]
-pub enum Sent {
-    Nothing,
-    At(u32),
 }

@@ -4,48 +4,30 @@ ghost use Rattle.script.specs.Parts.{comma, parted};
 ghost use Rattle.script.specs.Script.{one_of, two_of, unit_below, pair_below, by_letter, event_letter, event_of};
 
 use super::{numbers, parts};
-use script::{NumberRead, PairRead, ScriptEvent};
+use script::ScriptEvent;
 
 // A unit number of n or more is malformed.
-fn unit_below(n: u8, a: NumberRead) -> NumberRead
-    ensures { result ≡ unit_below n a }
+fn unit_below(n: u8, unit: Option<u32>) -> Option<u32>
+    ensures { result ≡ unit_below n unit }
 {
-    match a {
-        NumberRead::Is(u) => {
-            if u < n as u32 {
-                NumberRead::Is(u)
-            } else {
-                NumberRead::Malformed
-            }
-        }
-        NumberRead::Malformed => NumberRead::Malformed,
-    }
+    unit.filter(|u| *u < u32::from(n))
 }
 
-fn pair_below(n: u8, p: PairRead) -> PairRead
-    ensures { result ≡ pair_below n p }
+fn pair_below(n: u8, pair: Option<(u32, u32)>) -> Option<(u32, u32)>
+    ensures { result ≡ pair_below n pair }
 {
-    match p {
-        PairRead::Are(u, x) => {
-            if u < n as u32 {
-                PairRead::Are(u, x)
-            } else {
-                PairRead::Malformed
-            }
-        }
-        PairRead::Malformed => PairRead::Malformed,
-    }
+    pair.filter(|p| p.0 < u32::from(n))
 }
 
 // The unit that the rest of a line says.
-fn unit_of(n: u8, rest: &[u8]) -> NumberRead
+fn one_below(n: u8, rest: &[u8]) -> Option<u32>
     ensures { result ≡ unit_below n (one_of (parted comma rest.now)) }
 {
     unit_below(n, numbers::one(rest))
 }
 
 // The unit, and a mileage or a message number.
-fn pair_of(n: u8, rest: &[u8]) -> PairRead
+fn two_below(n: u8, rest: &[u8]) -> Option<(u32, u32)>
     ensures { result ≡ pair_below n (two_of (parted comma rest.now)) }
 {
     pair_below(n, numbers::two(rest))
@@ -56,34 +38,20 @@ fn pair_of(n: u8, rest: &[u8]) -> PairRead
 fn by_letter(n: u8, letter: u8, rest: &[u8]) -> ScriptEvent
     ensures { result ≡ by_letter n letter (parted comma rest.now) }
 {
-    match letter {
-        b'P' => match pair_of(n, rest) {
-            PairRead::Are(u, v) => ScriptEvent::Propose(u, v),
-            PairRead::Malformed => ScriptEvent::Malformed,
-        },
-        b'D' => match pair_of(n, rest) {
-            PairRead::Are(u, k) => ScriptEvent::Deliver(u, k),
-            PairRead::Malformed => ScriptEvent::Malformed,
-        },
-        b'W' => match pair_of(n, rest) {
-            PairRead::Are(u, k) => ScriptEvent::Cut(u, k),
-            PairRead::Malformed => ScriptEvent::Malformed,
-        },
-        b'K' => match unit_of(n, rest) {
-            NumberRead::Is(u) => ScriptEvent::KeyOff(u),
-            NumberRead::Malformed => ScriptEvent::Malformed,
-        },
-        b'U' => match unit_of(n, rest) {
-            NumberRead::Is(u) => ScriptEvent::KeyOn(u),
-            NumberRead::Malformed => ScriptEvent::Malformed,
-        },
-        _ => ScriptEvent::Malformed,
-    }
+    let event = match letter {
+        b'P' => two_below(n, rest).map(|(u, v)| ScriptEvent::Propose(u, v)),
+        b'D' => two_below(n, rest).map(|(u, k)| ScriptEvent::Deliver(u, k)),
+        b'W' => two_below(n, rest).map(|(u, k)| ScriptEvent::Cut(u, k)),
+        b'K' => one_below(n, rest).map(ScriptEvent::KeyOff),
+        b'U' => one_below(n, rest).map(ScriptEvent::KeyOn),
+        _ => None,
+    };
+    event.unwrap_or(ScriptEvent::Malformed)
 }
 
 pub const QUESTION_MARK: u8 = b'?';
 
-// The letter of an event, as a listing shows it.
+// The letter of an event, as a listing shows it. Each letter stands here and in by_letter: constants would be five names more.
 pub fn event_letter(e: ScriptEvent) -> u8
     ensures { result ≡ event_letter e }
 {
@@ -98,15 +66,12 @@ pub fn event_letter(e: ScriptEvent) -> u8
 }
 
 // A line's event, without its byte 10.
+#[tactic(auto, using(script::proofs::EventLines::short_line), unfolding(script::specs::Script::event_of))]
 pub fn event(n: u8, line: &[u8]) -> ScriptEvent
     ensures { result ≡ event_of n line.now }
 {
-    if line.len() < 2 {
-        return ScriptEvent::Malformed;
-    }
-    if line[1] == parts::COMMA {
-        by_letter(n, line[0], &line[2..])
-    } else {
-        ScriptEvent::Malformed
+    match parts::split_once(line, parts::COMMA) {
+        Some(([letter], rest)) => by_letter(n, *letter, rest),
+        _ => ScriptEvent::Malformed,
     }
 }

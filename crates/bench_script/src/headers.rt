@@ -3,8 +3,7 @@ ghost use Rattle.std.specs.Prelude.{◌≡◌, true};
 ghost use Rattle.script.specs.Script.{empty_engine, engine_field, in_ranges, header_with, with_numbers, header_of};
 
 use super::{numbers, parts};
-use formats::EngineRead;
-use script::{Header, HeaderRead, PairRead};
+use script::Header;
 use tally::{Engine, limits};
 
 // An empty engine field means B.
@@ -14,63 +13,51 @@ fn empty_engine(n: u32) -> Engine
     Engine::B
 }
 
-fn engine_field(n: u32, f: &[u8]) -> EngineRead
+fn engine_field(n: u32, f: &[u8]) -> Option<Engine>
     ensures { result ≡ engine_field n f.now }
 {
-    if f.len() < 1 {
-        return EngineRead::Is(empty_engine(n));
+    match f {
+        [] => Some(empty_engine(n)),
+        [letter] => codes::engine_of(*letter),
+        _ => None,
     }
-    if f.len() < 2 {
-        return codes::engine_of(f[0]);
-    }
-    EngineRead::Unknown
 }
 
+// At 32 bits: a script's number may be too large for the types that rules::logs::numbers_ok takes.
 fn in_ranges(n: u32, entry: u32) -> bool
     ensures { result ≡ in_ranges n entry }
 {
-    (limits::MIN_UNITS as u32 <= n)
-        & (n <= limits::MAX_UNITS as u32)
-        & (limits::MIN_ENTRY as u32 <= entry)
-        & (entry <= limits::MAX_ENTRY as u32)
+    (u32::from(limits::MIN_UNITS)..=u32::from(limits::MAX_UNITS)).contains(&n)
+        && (u32::from(limits::MIN_ENTRY)..=u32::from(limits::MAX_ENTRY)).contains(&entry)
 }
 
-fn header_with(engine: EngineRead, n: u32, entry: u32) -> HeaderRead
+fn header_with(engine: Option<Engine>, n: u32, entry: u32) -> Option<Header>
     requires { in_ranges n entry ≡ true }
     ensures { result ≡ header_with engine n entry }
 {
-    match engine {
-        EngineRead::Is(g) => HeaderRead::Is(Header {
-            engine: g,
-            n: n as u8,
-            entry: entry as u16,
-        }),
-        EngineRead::Unknown => HeaderRead::Malformed,
-    }
+    Some(Header {
+        engine: engine?,
+        n: n as u8,
+        entry: entry as u16,
+    })
 }
 
-fn with_numbers(f: &[u8], p: PairRead) -> HeaderRead
-    ensures { result ≡ with_numbers f.now p }
+fn with_numbers(f: &[u8], numbers: Option<(u32, u32)>) -> Option<Header>
+    ensures { result ≡ with_numbers f.now numbers }
 {
-    match p {
-        PairRead::Are(n, entry) => {
-            if in_ranges(n, entry) {
-                header_with(engine_field(n, f), n, entry)
-            } else {
-                HeaderRead::Malformed
-            }
-        }
-        PairRead::Malformed => HeaderRead::Malformed,
+    let (n, entry) = numbers?;
+    if in_ranges(n, entry) {
+        header_with(engine_field(n, f), n, entry)
+    } else {
+        None
     }
 }
 
 // The header's line, without its byte 10.
-pub fn header(line: &[u8]) -> HeaderRead
+#[tactic(auto, unfolding(script::specs::Script::header_of))]
+pub fn header(line: &[u8]) -> Option<Header>
     ensures { result ≡ header_of line.now }
 {
-    let e = parts::before(line, parts::COMMA);
-    if line.len() <= e {
-        return HeaderRead::Malformed;
-    }
-    with_numbers(&line[..e], numbers::two(&line[e + 1..]))
+    let (engine, others) = parts::split_once(line, parts::COMMA)?;
+    with_numbers(engine, numbers::two(others))
 }

@@ -13,7 +13,8 @@ use tally::limits;
 // One byte more than a script may have, so that too long is seen.
 const READ_SIZE: usize = limits::SCRIPT_SIZE + 1;
 
-// Reads until the buffer is full or the reader is at its end; a read that fails ends it too. Says how many bytes there are.
+// Reads until the buffer is full or the reader is at its end; a read that fails ends it too. Says how many bytes there are, which std's `read_exact` does
+// not say where it fails; `read_to_end` allocates.
 fn fill<R: Read>(from: &mut R, script: &mut [u8]) -> (usize, io::Result<()>)
     ensures within { result.0 ≤ length script.new }
     ensures read { Consumes (R.remaining from.old) (R.remaining from.new) (take result.0 script.new) }
@@ -40,8 +41,7 @@ pub fn play<R: Read, W: Write>(from: &mut R, to: &mut W, out: &mut [u8]) -> io::
 {
     let mut script = [0u8; READ_SIZE];
     let (size, read) = fill(from, &mut script);
-    let written = bench::print(&script[..size], out);
-    let length = written.length;
+    let length = bench::print(&script[..size], out).unwrap_or(0);
     to.write_all(&out[..length])?;
     read
 }

@@ -1,4 +1,5 @@
 -- A number that is printed is read back the same. Assumes nothing.
+use Rattle.std.specs.Prelude.{Some}
 use Prim.Native.Nat.{ℕ, zero, suc, ◌+◌, ◌-◌, ◌*◌, ◌^◌, ◌≤◌, ◌<◌, ◌/◌, ◌%◌}
 use mathlib.Core.Path.{◌≡◌, refl, sym, ◌∙◌}
 use mathlib.Core.Bool.{true, false, and-false}
@@ -9,7 +10,6 @@ use borrow.Author.Tests.{le-leb, lt-leb, ne_eqb}
 use lib.ListN.{length, get_or, length-append, get_or-append}
 use Rattle.contents.proofs.Tests.{both_true}
 use Rattle.script.specs.Numbers.{digit_zero, digit_nine, max_digits, max_number, is_digit, all_digits, leading_zero, value_from, is_number, read_number}
-use Rattle.script.specs.declared.NumberRead.{NumberRead}
 use Rattle.bench_text.specs.Text.{digits, decimal}
 use Rattle.bench_text.proofs.Digits.{few, many, lower, digits_short}
 
@@ -65,11 +65,11 @@ no_leading_zero n s r = go (dec_lt 0 n)
     go (yes l) = rw (ne_eqb (get_or s 0 0) digit_zero (r.first l), and-false)
     go (no g) = rw (lt-leb 2 (length s) (omega (arith, r.alone (omega arith))))
 
-says_read : (n : ℕ) (s : List ℕ) → Says n s → length s ≤ max_digits → n ≤ max_number → read_number s ≡ NumberRead.Is n
+says_read : (n : ℕ) (s : List ℕ) → Says n s → length s ≤ max_digits → n ≤ max_number → read_number s ≡ Some n
 unfolding read_number is_number
 says_read n s r short most =
     simp (le-leb 1 (length s) r.some, le-leb (length s) max_digits short, r.all, no_leading_zero n s r, r.value, le-leb n max_number most)
 
-pub decimal_read : (n : ℕ) → n ≤ max_number → read_number (decimal n) ≡ NumberRead.Is n
+pub decimal_read : (n : ℕ) → n ≤ max_number → read_number (decimal n) ≡ Some n
 unfolding decimal
 decimal_read n most = says_read n (digits max_digits n) (digits_say max_digits n (omega arith) (omega arith)) (digits_short max_digits n) most

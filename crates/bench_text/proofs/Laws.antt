@@ -1,14 +1,19 @@
--- The lines in threes. Assumes nothing.
-use mathlib.Core.Path.{◌≡◌}
-use mathlib.Core.List.{◌++◌, append_assoc}
-use Rattle.script.specs.Parts.{comma, newline}
-use Rattle.bench_text.specs.declared.ListingLine.{ListingLine}
+-- Fields, one after the other. Assumes nothing.
+use Prim.Native.Nat.{◌-◌, ◌≤◌}
+use mathlib.Core.Path.{◌≡◌, refl}
+use mathlib.Core.List.{List, [], ◌∷◌, ◌++◌}
+use native.Mathlib.Omega.{arith}
+use lib.ListN.{length, get_or, take, drop}
+use lib.Seq.{take_all}
+use Rattle.script.specs.Parts.{comma}
 use Rattle.bench_text.specs.declared.Shown.{Shown}
-use Rattle.bench_text.specs.Text.{line_text}
-use Rattle.bench_text.specs.InnerText.{two_text, three_text}
+use Rattle.bench_text.specs.Text.{field_text, fields_text}
 
-pub line_threes : (r : ListingLine)
-    → line_text r
-    ≡ three_text (Shown.Number r.index) (Shown.Letter r.letter) r.unit comma ++ three_text (Shown.Number r.number) r.sent r.decision newline
-unfolding line_text three_text two_text
-line_threes r = simp append_assoc
+-- where there are two or more: the first, and then the others
+pub fields_more : (fields : List Shown) → 2 ≤ length fields
+    → fields_text fields ≡ field_text (get_or fields 0 Shown.Dash) comma ++ fields_text (take (length fields - 1) (drop 1 fields))
+fields_more [] h = absurd (omega arith)
+fields_more (s ∷ []) h = absurd (omega arith)
+fields_more (s ∷ t ∷ ss) h =
+    let all : take (length (s ∷ t ∷ ss) - 1) (t ∷ ss) ≡ t ∷ ss = take_all _ _ (omega arith) in
+    rw all refl

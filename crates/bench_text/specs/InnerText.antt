@@ -1,18 +1,25 @@
 -- What inner functions promise, of which no public call's contract speaks. Assumes nothing.
-use Rattle.std.specs.Prelude.{ℕ, ◌+◌, ◌≡◌, List, ◌++◌, length}
+use Rattle.std.specs.Prelude.{ℕ, ◌+◌, ◌≡◌, ◌≤◌, List, length}
+use Rattle.std.specs.Borrow.{MutBor}
 use Rattle.std.proofs.lemmas.List.Edits.{sets}
-use Rattle.script.specs.Parts.{comma}
-use Rattle.bench_text.specs.declared.Shown.{Shown}
-use Rattle.bench_text.specs.Text.{field_text}
-
--- two or three fields of a line, and the byte after them
-unfoldable pub two_text : Shown → Shown → ℕ → List ℕ
-two_text a b stop = field_text a comma ++ field_text b stop
-
-unfoldable pub three_text : Shown → Shown → Shown → ℕ → List ℕ
-three_text a b c stop = field_text a comma ++ two_text b c stop
+use Rattle.bench_text.specs.declared.Listing.{Listing}
 
 -- ys is xs with the text from place at on, and r is where it ends
 pub record Puts (xs : List ℕ) (at : ℕ) (text : List ℕ) (ys : List ℕ) (r : ℕ) : Type 0 where
   pub bytes : ys ≡ sets xs at text
   pub ends : r ≡ at + length text
+
+-- a listing of no byte yet, in the buffer that is lent
+pub record Begins (buffer : MutBor (List ℕ)) (p : Listing) : Type 0 where
+  pub same_reference : p.buffer.ghost_name ≡ buffer.ghost_name
+  pub same_bytes : p.buffer.now ≡ buffer.now
+  pub empty : p.at ≡ 0
+
+-- after the listing there is room for so many bytes more
+abbrev pub HasRoom : Listing → ℕ → Type 0
+HasRoom p bytes = p.at + bytes ≤ length p.buffer.now
+
+-- the text comes after the listing p, in the same buffer
+pub record Appends (p : Listing) (text : List ℕ) (q : Listing) : Type 0 where
+  pub same_reference : q.buffer.ghost_name ≡ p.buffer.ghost_name
+  pub puts : Puts p.buffer.now p.at text q.buffer.now q.at

@@ -1,16 +1,16 @@
 // The lines of a listing, appended to a lent buffer.
 #![tactic(auto)]
 
-ghost use Rattle.std.specs.Prelude.{◌+◌, ◌≤◌, ◌<◌, ◌^◌, [], ◌∷◌, length};
-ghost use Rattle.bench_text.specs.Text.{digits, decimal, shown_text, field_text, header_text, line_text, end_text};
-ghost use Rattle.bench_text.specs.InnerText.{two_text, three_text, Puts};
+ghost use Rattle.std.specs.Prelude.{◌≡◌, ◌+◌, ◌≤◌, ◌<◌, ◌^◌, [], ◌∷◌, length};
+ghost use Rattle.bench_text.specs.Text.{digits, decimal, shown_text, field_text, fields_text, header_text, line_text, end_text};
+ghost use Rattle.bench_text.specs.InnerText.{Begins, HasRoom, Appends};
 
 use bench_script::{numbers, parts};
 
 // How the final line begins.
 pub const END: [u8; 4] = *b"end,";
 
-// A field of a line.
+// A field of a line. A dash is a case and no None: it is printed as the others are.
 #[derive(Clone, Copy)]
 pub enum Shown {
     Dash,
@@ -29,142 +29,140 @@ pub struct ListingLine {
     pub decision: Shown,
 }
 
-fn put_byte(out: &mut [u8], at: usize, b: u8) -> usize
-    requires { at < length out.old }
-    ensures { Puts out.old at (b ∷ []) out.new result }
-{
-    out[at] = b;
-    at + 1
+// A listing so far, at the front of a lent buffer.
+#[derive(Drop)]
+pub struct Listing<'a> {
+    buffer: &'a mut [u8],
+    at: usize,
 }
 
-// n in decimal, in at most k digits.
-fn put_digits(out: &mut [u8], at: usize, n: u32, k: usize) -> usize
-    requires room { at + length (digits k n) ≤ length out.old }
-    requires k_nonzero { 0 < k }
-    requires n_bound { n < 10 ^ k }
-    ensures { Puts out.old at (digits k n) out.new result }
-{
-    if n < 10 {
-        return put_byte(out, at, b'0' + n as u8);
+impl<'a> Listing<'a> {
+    pub fn new(buffer: &'a mut [u8]) -> Self
+        ensures { Begins buffer.entry result }
+    {
+        Listing { buffer, at: 0 }
     }
-    let e = put_digits(out, at, n / 10, k - 1);
-    put_byte(out, e, b'0' + (n % 10) as u8)
-}
 
-fn put_number(out: &mut [u8], at: usize, n: u32) -> usize
-    requires { at + length (decimal n) ≤ length out.old }
-    ensures { Puts out.old at (decimal n) out.new result }
-{
-    put_digits(out, at, n, numbers::MAX_DIGITS)
-}
-
-#[tactic(auto, unfolding(crate::specs::Text::shown_text))]
-fn put_shown(out: &mut [u8], at: usize, s: Shown) -> usize
-    requires { at + length (shown_text s) ≤ length out.old }
-    ensures { Puts out.old at (shown_text s) out.new result }
-{
-    match s {
-        Shown::Dash => put_byte(out, at, b'-'),
-        Shown::Letter(b) => put_byte(out, at, b),
-        Shown::Number(n) => put_number(out, at, n),
+    // How many bytes it has.
+    pub fn len(&self) -> usize
+        ensures { result ≡ self.now.at }
+    {
+        self.at
     }
-}
 
-// A field and the byte after it.
-#[tactic(auto, unfolding(crate::specs::Text::field_text))]
-fn put_field(out: &mut [u8], at: usize, s: Shown, b: u8) -> usize
-    requires { at + length (field_text s b) ≤ length out.old }
-    ensures { Puts out.old at (field_text s b) out.new result }
-{
-    let e = put_shown(out, at, s);
-    put_byte(out, e, b)
-}
-
-// Two fields of a line, and the byte after them.
-#[tactic(auto, unfolding(crate::specs::InnerText::two_text))]
-fn put_two(out: &mut [u8], at: usize, a: Shown, b: Shown, stop: u8) -> usize
-    requires { at + length (two_text a b stop) ≤ length out.old }
-    ensures { Puts out.old at (two_text a b stop) out.new result }
-{
-    let p = put_field(out, at, a, parts::COMMA);
-    put_field(out, p, b, stop)
-}
-
-// Three fields of a line, and the byte after them.
-#[tactic(auto, unfolding(crate::specs::InnerText::three_text))]
-fn put_three(out: &mut [u8], at: usize, a: Shown, b: Shown, c: Shown, stop: u8) -> usize
-    requires { at + length (three_text a b c stop) ≤ length out.old }
-    ensures { Puts out.old at (three_text a b c stop) out.new result }
-{
-    let p = put_field(out, at, a, parts::COMMA);
-    put_two(out, p, b, c, stop)
-}
-
-#[tactic(auto, unfolding(crate::specs::Text::header_text, crate::specs::InnerText::three_text, crate::specs::InnerText::two_text))]
-pub fn put_header(out: &mut [u8], at: usize, letter: u8, n: u32, entry: u32) -> usize
-    requires { at + length (header_text letter n entry) ≤ length out.old }
-    ensures { Puts out.old at (header_text letter n entry) out.new result }
-{
-    put_three(
-        out,
-        at,
-        Shown::Letter(letter),
-        Shown::Number(n),
-        Shown::Number(entry),
-        parts::NEWLINE,
-    )
-}
-
-#[tactic(auto, unfolding(crate::specs::Text::line_text, crate::specs::InnerText::three_text, crate::specs::InnerText::two_text))]
-pub fn put_line(out: &mut [u8], at: usize, line: ListingLine) -> usize
-    requires { at + length (line_text line) ≤ length out.old }
-    ensures { Puts out.old at (line_text line) out.new result }
-{
-    let unit = line.unit;
-    let sent = line.sent;
-    let decision = line.decision;
-    let p = put_three(
-        out,
-        at,
-        Shown::Number(line.index),
-        Shown::Letter(line.letter),
-        unit,
-        parts::COMMA,
-    );
-    put_three(
-        out,
-        p,
-        Shown::Number(line.number),
-        sent,
-        decision,
-        parts::NEWLINE,
-    )
-}
-
-fn put_text(out: &mut [u8], at: usize, s: &[u8]) -> usize
-    requires { at + length s.now ≤ length out.old }
-    ensures { Puts out.old at s.now out.new result }
-{
-    let mut i: usize = 0;
-    while i < s.len() {
-        out[at + i] = s[i];
-        i += 1;
+    fn put_byte(&mut self, b: u8)
+        requires { HasRoom self.old 1 }
+        ensures { Appends self.old (b ∷ []) self.new }
+    {
+        self.buffer[self.at] = b;
+        self.at += 1;
     }
-    at + i
-}
 
-// The final line.
-#[tactic(auto, unfolding(crate::specs::Text::end_text, crate::specs::InnerText::two_text))]
-pub fn put_end(out: &mut [u8], at: usize, events: u32, kept: u32) -> usize
-    requires { at + length (end_text events kept) ≤ length out.old }
-    ensures { Puts out.old at (end_text events kept) out.new result }
-{
-    let p = put_text(out, at, &END);
-    put_two(
-        out,
-        p,
-        Shown::Number(events),
-        Shown::Number(kept),
-        parts::NEWLINE,
-    )
+    // n in decimal, in at most k digits: a recursion, as the definition is. Of what std's Display writes to a writer of our own its contracts do not say
+    // that it is all written.
+    fn put_digits(&mut self, n: u32, k: usize)
+        requires room { HasRoom self.old (length (digits k n)) }
+        requires k_nonzero { 0 < k }
+        requires n_bound { n < 10 ^ k }
+        ensures { Appends self.old (digits k n) self.new }
+    {
+        if n < 10 {
+            self.put_byte(b'0' + n as u8);
+        } else {
+            self.put_digits(n / 10, k - 1);
+            self.put_byte(b'0' + (n % 10) as u8);
+        }
+    }
+
+    #[tactic(auto, unfolding(crate::specs::Text::decimal))]
+    fn put_number(&mut self, n: u32)
+        requires { HasRoom self.old (length (decimal n)) }
+        ensures { Appends self.old (decimal n) self.new }
+    {
+        self.put_digits(n, numbers::MAX_DIGITS);
+    }
+
+    #[tactic(auto, unfolding(crate::specs::Text::shown_text))]
+    fn put_shown(&mut self, s: Shown)
+        requires { HasRoom self.old (length (shown_text s)) }
+        ensures { Appends self.old (shown_text s) self.new }
+    {
+        match s {
+            Shown::Dash => self.put_byte(b'-'),
+            Shown::Letter(b) => self.put_byte(b),
+            Shown::Number(n) => self.put_number(n),
+        }
+    }
+
+    // A field and the byte after it.
+    #[tactic(auto, unfolding(crate::specs::Text::field_text))]
+    fn put_field(&mut self, s: Shown, b: u8)
+        requires { HasRoom self.old (length (field_text s b)) }
+        ensures { Appends self.old (field_text s b) self.new }
+    {
+        self.put_shown(s);
+        self.put_byte(b);
+    }
+
+    // Fields parted by commas, and byte 10.
+    fn put_fields(&mut self, fields: &[Shown])
+        requires { HasRoom self.old (length (fields_text fields.now)) }
+        ensures { Appends self.old (fields_text fields.now) self.new }
+    {
+        match fields {
+            [] => self.put_byte(parts::NEWLINE),
+            [last] => self.put_field(*last, parts::NEWLINE),
+            [first, rest @ ..] => {
+                self.put_field(*first, parts::COMMA);
+                self.put_fields(rest);
+            }
+        }
+    }
+
+    #[tactic(auto, unfolding(crate::specs::Text::header_text))]
+    pub fn put_header(&mut self, letter: u8, n: u32, entry: u32)
+        requires { HasRoom self.old (length (header_text letter n entry)) }
+        ensures { Appends self.old (header_text letter n entry) self.new }
+    {
+        self.put_fields(&[
+            Shown::Letter(letter),
+            Shown::Number(n),
+            Shown::Number(entry),
+        ]);
+    }
+
+    #[tactic(auto, unfolding(crate::specs::Text::line_text))]
+    pub fn put_line(&mut self, line: ListingLine)
+        requires { HasRoom self.old (length (line_text line)) }
+        ensures { Appends self.old (line_text line) self.new }
+    {
+        self.put_fields(&[
+            Shown::Number(line.index),
+            Shown::Letter(line.letter),
+            line.unit,
+            Shown::Number(line.number),
+            line.sent,
+            line.decision,
+        ]);
+    }
+
+    #[tactic(auto, using(crate::proofs::Appending::copied))]
+    fn put_text(&mut self, s: &[u8])
+        requires { HasRoom self.old (length s.now) }
+        ensures { Appends self.old s.now self.new }
+    {
+        let end = self.at + s.len();
+        self.buffer[self.at..end].copy_from_slice(s);
+        self.at = end;
+    }
+
+    // The final line.
+    #[tactic(auto, unfolding(crate::specs::Text::end_text))]
+    pub fn put_end(&mut self, events: u32, kept: u32)
+        requires { HasRoom self.old (length (end_text events kept)) }
+        ensures { Appends self.old (end_text events kept) self.new }
+    {
+        self.put_text(&END);
+        self.put_fields(&[Shown::Number(events), Shown::Number(kept)]);
+    }
 }

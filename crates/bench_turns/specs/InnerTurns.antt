@@ -1,5 +1,5 @@
 -- What inner functions promise, of which no public call's contract speaks: an event as a turn of its unit. Assumes nothing.
-use Rattle.std.specs.Prelude.{ℕ, Bool, true, false, cond, ltb, eqb}
+use Rattle.std.specs.Prelude.{ℕ, Bool, true, false, cond, ltb, eqb, Option, Some, None}
 use Rattle.tally.specs.Limits.{Limits, places}
 use Rattle.tally.specs.Refusal.{number_of}
 use Rattle.tally.specs.declared.Estimate.{Estimate}
@@ -13,7 +13,6 @@ use Rattle.consensus.specs.declared.Unit as U
 use Rattle.script.specs.declared.ScriptEvent.{ScriptEvent}
 use Rattle.bench_play.specs.Bench.{no_place_left}
 use Rattle.bench_play.specs.Play.{delivery_conditions, cut_short}
-use Rattle.bench_play.specs.declared.Sent.{Sent}
 use Rattle.bench_turns.specs.declared.LineOutcome.{LineOutcome}
 
 -- ---- what an event takes of the bench: its unit, and the message at this place
@@ -36,7 +35,7 @@ unfoldable pub turn_delivery : Limits → U.Unit → ℕ → Message → ℕ →
 turn_delivery l x kept m k = unless (delivery_conditions x kept k) x (deliver l x m)
 
 unfoldable pub turn : Limits → U.Unit → ℕ → Message → ScriptEvent → Answer
-turn l x kept m ScriptEvent.Malformed = refuses x Refusal.Line
+turn l x kept m ScriptEvent.Malformed = refuses x (Some Refusal.Line)
 turn l x kept m (ScriptEvent.Propose u v) = propose l x v
 turn l x kept m (ScriptEvent.Deliver u k) = turn_delivery l x kept m k
 turn l x kept m (ScriptEvent.Cut u k) = cut_short (turn_delivery l x kept m k)
@@ -45,25 +44,25 @@ turn l x kept m (ScriptEvent.KeyOn u) = key_on x
 
 -- ---- what comes of it
 
-abbrev pub refused_outcome : Refusal → LineOutcome
-refused_outcome k = record { refusal = k; sent = Sent.Nothing; decision = Blank }
+abbrev pub refused_outcome : Option Refusal → LineOutcome
+refused_outcome k = record { refusal = k; sent = None; decision = Blank }
 
-abbrev pub accepted_outcome : Sent → Estimate → LineOutcome
-accepted_outcome s d = record { refusal = Refusal.None; sent = s; decision = d }
+abbrev pub accepted_outcome : Option ℕ → Estimate → LineOutcome
+accepted_outcome s d = record { refusal = None; sent = s; decision = d }
 
 -- what comes of an answer, with that many messages kept: as `send` and `settle` say, without the bench
 abbrev pub send_outcome : ℕ → Estimate → LineOutcome
-send_outcome kept d = cond (no_place_left kept) (refused_outcome Refusal.Full) (accepted_outcome (Sent.At kept) d)
+send_outcome kept d = cond (no_place_left kept) (refused_outcome (Some Refusal.Full)) (accepted_outcome (Some kept) d)
 
 unfoldable pub outcome_of : ℕ → Answer → LineOutcome
 outcome_of kept a =
     cond (eqb (number_of a.refusal) 0)
-    (cond (is_empty a.message.kind) (accepted_outcome Sent.Nothing a.decision) (send_outcome kept a.decision))
+    (cond (is_empty a.message.kind) (accepted_outcome None a.decision) (send_outcome kept a.decision))
     (refused_outcome a.refusal)
 
 abbrev pub is_accepted : LineOutcome → Bool
 is_accepted o = eqb (number_of o.refusal) 0
 
-abbrev pub is_sent : Sent → Bool
-is_sent Sent.Nothing = false
-is_sent (Sent.At k) = true
+abbrev pub is_sent : Option ℕ → Bool
+is_sent None = false
+is_sent (Some k) = true

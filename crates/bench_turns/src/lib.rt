@@ -1,4 +1,5 @@
-// The bench at its start, and an event as a turn of its unit: what it takes of the bench goes in by value, and what it makes of it comes back.
+// The bench at its start, and an event as a turn of its unit: what it takes of the bench goes in by value (one unit, one message, and how many
+// messages there are), and what it makes of it comes back.
 #![tactic(auto)]
 
 ghost use Rattle.std.specs.Prelude.{◌≡◌};
@@ -10,11 +11,12 @@ ghost use Rattle.bench_play.specs.Play.{cut_short};
 ghost use Rattle.bench_turns.specs.InnerTurns.{place_or_first, event_place, turn_delivery, turn};
 ghost use Rattle.bench_turns.specs.InnerTurns.{refused_outcome, accepted_outcome, send_outcome, outcome_of, is_accepted, is_sent};
 
-use bench_play::{Bench, Sent};
+use bench_play::Bench;
 use consensus::{Answer, Unit, methods, step};
 use contents::{Message, Settings};
 use rules::messages;
 use script::{Header, ScriptEvent};
+use std::array;
 use tally::{Estimate, Refusal, limits};
 
 // ---- at the start
@@ -32,18 +34,10 @@ fn fresh_unit(h: Header, unit: u8) -> Unit
 }
 
 // The units, each with its own number.
-#[tactic(auto, unfolding(bench_play::specs::Bench::fresh_units))]
 fn fresh_units(h: Header) -> [Unit; limits::SENDERS]
     ensures { result ≡ fresh_units h senders }
 {
-    let mut units = [fresh_unit(h, 0); limits::SENDERS];
-    let mut i: u8 = 0;
-    while i < limits::MAX_UNITS {
-        let at = i as usize;
-        units[at] = fresh_unit(h, i);
-        i += 1;
-    }
-    units
+    array::from_fn(|unit| fresh_unit(h, unit as u8))
 }
 
 #[tactic(auto, unfolding(bench_play::specs::Bench::start))]
@@ -57,7 +51,8 @@ pub fn start(h: Header) -> Bench
     }
 }
 
-// ---- what an event takes of the bench
+// ---- what an event takes of the bench: the first where it takes nothing, so that each line reads a unit and a message; what it reads then plays no
+// part. Crate script has types alone, so what is asked of an event is a match where it is asked.
 
 pub fn event_unit(e: ScriptEvent) -> usize
     ensures { result ≡ event_unit e }
@@ -99,25 +94,22 @@ pub fn event_place(e: ScriptEvent) -> usize
 fn turn_delivery(unit: Unit, kept: u32, m: Message, k: u32) -> Answer
     ensures { result ≡ turn_delivery today unit kept m k }
 {
-    let power = unit.power;
-    if !methods::is_up(power) {
-        return unit.refused(Refusal::Power);
+    if !methods::is_up(unit.power) {
+        return unit.refused(Some(Refusal::Power));
     }
     if kept <= k {
-        return unit.refused(Refusal::Unsent);
+        return unit.refused(Some(Refusal::Unsent));
     }
     unit.deliver(m)
 }
 
 // The key goes off after the log write: nothing is sent or decided.
-#[tactic(auto, unfolding(bench_play::specs::Play::cut_short))]
+#[tactic(auto, using(tally::proofs::Refusals::refusal_number), unfolding(bench_play::specs::Play::cut_short))]
 fn cut_short(a: Answer) -> Answer
     ensures { result ≡ cut_short a }
 {
-    let why = a.refusal;
-    if tally::number(why) == 0 {
-        let unit = a.unit;
-        unit.key_off()
+    if a.refusal.is_none() {
+        a.unit.key_off()
     } else {
         a
     }
@@ -129,7 +121,7 @@ pub fn turn(unit: Unit, kept: u32, m: Message, e: ScriptEvent) -> Answer
     ensures { result ≡ turn today unit kept m e }
 {
     match e {
-        ScriptEvent::Malformed => unit.refused(Refusal::Line),
+        ScriptEvent::Malformed => unit.refused(Some(Refusal::Line)),
         ScriptEvent::Propose(_, v) => unit.propose(v),
         ScriptEvent::Deliver(_, k) => turn_delivery(unit, kept, m, k),
         ScriptEvent::Cut(_, k) => cut_short(turn_delivery(unit, kept, m, k)),
@@ -140,29 +132,30 @@ pub fn turn(unit: Unit, kept: u32, m: Message, e: ScriptEvent) -> Answer
 
 // ---- what comes of it
 
-// What a line shows beside its event: a refusal or None, the message sent, and a mileage decided or blank.
-#[derive(Clone, Copy)]
+// What a line shows beside its event: why it is refused, if it is, the number of the message sent, and a mileage decided or blank. A refused line shows
+// all three too.
+#[derive(Clone, Copy, PartialEq, Eq)]
 pub struct LineOutcome {
-    pub refusal: Refusal,
-    pub sent: Sent,
+    pub refusal: Option<Refusal>,
+    pub sent: Option<u32>,
     pub decision: Estimate,
 }
 
-fn refused_outcome(refusal: Refusal) -> LineOutcome
+fn refused_outcome(refusal: Option<Refusal>) -> LineOutcome
     ensures { result ≡ refused_outcome refusal }
 {
     LineOutcome {
         refusal,
-        sent: Sent::Nothing,
+        sent: None,
         decision: Estimate::Blank,
     }
 }
 
-fn accepted_outcome(sent: Sent, decision: Estimate) -> LineOutcome
+fn accepted_outcome(sent: Option<u32>, decision: Estimate) -> LineOutcome
     ensures { result ≡ accepted_outcome sent decision }
 {
     LineOutcome {
-        refusal: Refusal::None,
+        refusal: None,
         sent,
         decision,
     }
@@ -180,46 +173,36 @@ fn send_outcome(kept: u32, decision: Estimate) -> LineOutcome
     ensures { result ≡ send_outcome kept decision }
 {
     if no_place_left(kept) {
-        refused_outcome(Refusal::Full)
+        refused_outcome(Some(Refusal::Full))
     } else {
-        accepted_outcome(Sent::At(kept), decision)
+        accepted_outcome(Some(kept), decision)
     }
 }
 
 // What comes of a unit's answer, with that many messages kept.
-#[tactic(auto, unfolding(crate::specs::InnerTurns::outcome_of))]
+#[tactic(auto, using(tally::proofs::Refusals::refusal_number), unfolding(crate::specs::InnerTurns::outcome_of))]
 pub fn outcome_of(kept: u32, a: Answer) -> LineOutcome
     ensures { result ≡ outcome_of kept a }
 {
-    let refusal = a.refusal;
-    let message = a.message;
-    let kind = message.kind;
-    let decision = a.decision;
-    if tally::number(refusal) == 0 {
-        if messages::is_empty(kind) {
-            accepted_outcome(Sent::Nothing, decision)
-        } else {
-            send_outcome(kept, decision)
-        }
+    if a.refusal.is_some() {
+        return refused_outcome(a.refusal);
+    }
+    if messages::is_empty(a.message.kind) {
+        accepted_outcome(None, a.decision)
     } else {
-        refused_outcome(refusal)
+        send_outcome(kept, a.decision)
     }
 }
 
+#[tactic(auto, using(tally::proofs::Refusals::refusal_number))]
 pub fn is_accepted(o: LineOutcome) -> bool
     ensures { result ≡ is_accepted o }
 {
-    let refusal = o.refusal;
-    let number = tally::number(refusal);
-    number == 0
+    o.refusal.is_none()
 }
 
 pub fn is_sent(o: LineOutcome) -> bool
     ensures { result ≡ is_sent o.sent }
 {
-    let sent = o.sent;
-    match sent {
-        Sent::Nothing => false,
-        Sent::At(_) => true,
-    }
+    o.sent.is_some()
 }

@@ -4,6 +4,7 @@
 
 mod show;
 
+use show::{JUNK, LogBytes, MessageBytes, PrintedUnit};
 use std::io;
 use tally::limits;
 
@@ -15,9 +16,6 @@ const S: u32 = b'S' as u32;
 
 const K: u32 = b'K' as u32;
 
-// What a buffer holds before it is written.
-const JUNK: u8 = 170;
-
 const EVERYONE: u32 = limits::EVERYONE as u32;
 
 const LAST: u32 = limits::LAST_ROUND as u32;
@@ -25,7 +23,7 @@ const LAST: u32 = limits::LAST_ROUND as u32;
 const BEFORE_LAST: u32 = LAST - 1;
 
 // A log of a unit of 3 in B, entry 7, all blank.
-fn put_log(unit: u32, round: u32, log: &mut [u8; limits::LOG_SIZE]) {
+fn blank_log(unit: u32, round: u32) -> LogBytes {
     let fields = [
         B,
         3,
@@ -36,219 +34,175 @@ fn put_log(unit: u32, round: u32, log: &mut [u8; limits::LOG_SIZE]) {
         limits::BLANK,
         limits::BLANK,
     ];
-    fields::write_log(&fields, log);
+    let mut log = [JUNK; limits::LOG_SIZE];
+    let _ = fields::write_log(&fields, &mut log);
+    log
 }
 
-// A message in B, n = 3, entry 7.
-fn put_message(
+// The numbers of a message in B, n = 3, entry 7.
+#[derive(Clone, Copy)]
+struct MessageFields {
     kind: u32,
     sender: u32,
     receiver: u32,
     round: u32,
     estimate: u32,
     proposal: u32,
-    message: &mut [u8; limits::MESSAGE_SIZE],
-) {
-    let fields = [kind, B, 3, sender, receiver, 7, round, estimate, proposal];
-    fields::write_message(&fields, message);
 }
 
-// The listing's events at unit 1: unit 0's FIRST and CHECK come to it, then its own CHECK, which it answers with SECOND.
+impl MessageFields {
+    // Of unit 0, which proposes 5.
+    fn first(round: u32) -> Self {
+        MessageFields {
+            kind: F,
+            sender: 0,
+            receiver: EVERYONE,
+            round,
+            estimate: 5,
+            proposal: 5,
+        }
+    }
+
+    // With mileage 5.
+    fn second(sender: u32, round: u32) -> Self {
+        MessageFields {
+            kind: S,
+            sender,
+            receiver: EVERYONE,
+            round,
+            estimate: 5,
+            proposal: limits::BLANK,
+        }
+    }
+
+    // Of unit 0, for unit 1.
+    fn skip(round: u32) -> Self {
+        MessageFields {
+            kind: K,
+            sender: 0,
+            receiver: 1,
+            round,
+            estimate: limits::BLANK,
+            proposal: limits::BLANK,
+        }
+    }
+
+    fn bytes(self) -> MessageBytes {
+        let fields = [
+            self.kind,
+            B,
+            3,
+            self.sender,
+            self.receiver,
+            7,
+            self.round,
+            self.estimate,
+            self.proposal,
+        ];
+        let mut message = [JUNK; limits::MESSAGE_SIZE];
+        let _ = fields::write_message(&fields, &mut message);
+        message
+    }
+}
+
+// The listing's events at unit 1: unit 0's FIRST and CHECK come to it, then its own CHECK, which it answers with SECOND. Hands back its CHECK and
+// this SECOND.
 fn unit_1<P: Print>(
     rt: &P,
-    first: &[u8; limits::MESSAGE_SIZE],
-    check0: &[u8; limits::MESSAGE_SIZE],
-    check1: &mut [u8; limits::MESSAGE_SIZE],
-    second1: &mut [u8; limits::MESSAGE_SIZE],
-) -> io::Result<()> {
-    let mut log = [JUNK; limits::LOG_SIZE];
-    let mut image = [JUNK; limits::IMAGE_SIZE];
-    let mut out = [JUNK; limits::MESSAGE_SIZE];
-    show::start(rt, "B,3,7 unit 1", B, 3, 1, 7, &mut log, &mut image)?;
-    show::deliver(rt, "D,1,0", &mut log, &mut image, first, check1)?;
-    show::deliver(rt, "D,1,1", &mut log, &mut image, check0, &mut out)?;
-    show::deliver(rt, "D,1,2", &mut log, &mut image, check1, second1)
+    first: &MessageBytes,
+    check0: &MessageBytes,
+) -> io::Result<(MessageBytes, MessageBytes)> {
+    let mut unit = PrintedUnit::new(rt);
+    unit.start("B,3,7 unit 1", B, 3, 1, 7)?;
+    let check1 = unit.deliver("D,1,0", first)?;
+    unit.deliver("D,1,1", check0)?;
+    let second1 = unit.deliver("D,1,2", &check1)?;
+    Ok((check1, second1))
 }
 
 // Its last events, at unit 2: the SECOND of unit 1 and the CHECKs of units 0 and 1 come to it, then its own SECOND.
 fn unit_2<P: Print>(
     rt: &P,
-    check0: &[u8; limits::MESSAGE_SIZE],
-    check1: &[u8; limits::MESSAGE_SIZE],
-    second1: &[u8; limits::MESSAGE_SIZE],
+    check0: &MessageBytes,
+    check1: &MessageBytes,
+    second1: &MessageBytes,
 ) -> io::Result<()> {
-    let mut log = [JUNK; limits::LOG_SIZE];
-    let mut image = [JUNK; limits::IMAGE_SIZE];
-    let mut second2 = [JUNK; limits::MESSAGE_SIZE];
-    let mut out = [JUNK; limits::MESSAGE_SIZE];
-    show::start(rt, "B,3,7 unit 2", B, 3, 2, 7, &mut log, &mut image)?;
-    show::deliver(rt, "D,2,3", &mut log, &mut image, second1, &mut out)?;
-    show::deliver(rt, "D,2,1", &mut log, &mut image, check0, &mut out)?;
-    show::deliver(rt, "D,2,2", &mut log, &mut image, check1, &mut second2)?;
-    show::deliver(rt, "D,2,4", &mut log, &mut image, &second2, &mut out)
+    let mut unit = PrintedUnit::new(rt);
+    unit.start("B,3,7 unit 2", B, 3, 2, 7)?;
+    unit.deliver("D,2,3", second1)?;
+    unit.deliver("D,2,1", check0)?;
+    let second2 = unit.deliver("D,2,2", check1)?;
+    unit.deliver("D,2,4", &second2)?;
+    Ok(())
 }
 
 // The listing, its events at unit 0 here. A cut delivery (W) is the call, and then the key goes off: its log stays, its image and message are
 // lost.
 fn listing<P: Print>(rt: &P) -> io::Result<()> {
-    let mut log = [JUNK; limits::LOG_SIZE];
-    let mut image = [JUNK; limits::IMAGE_SIZE];
-    let mut first = [JUNK; limits::MESSAGE_SIZE];
-    let mut check0 = [JUNK; limits::MESSAGE_SIZE];
-    let mut check1 = [JUNK; limits::MESSAGE_SIZE];
-    let mut second1 = [JUNK; limits::MESSAGE_SIZE];
-    let mut out = [JUNK; limits::MESSAGE_SIZE];
-    show::start(rt, "B,3,7 unit 0", B, 3, 0, 7, &mut log, &mut image)?;
-    show::propose(rt, "P,0,412077", &log, &mut image, 412077, &mut first)?;
-    show::deliver(rt, "D,0,0", &mut log, &mut image, &first, &mut check0)?;
-    unit_1(rt, &first, &check0, &mut check1, &mut second1)?;
-    show::deliver(rt, "D,0,1", &mut log, &mut image, &check0, &mut out)?;
-    show::deliver(rt, "W,0,2", &mut log, &mut image, &check1, &mut out)?;
-    image = [JUNK; limits::IMAGE_SIZE];
-    show::title(rt, "D,0,3: the unit is down, there is no call")?;
-    show::key_on(rt, "U,0", &log, &mut image)?;
+    let mut unit = PrintedUnit::new(rt);
+    unit.start("B,3,7 unit 0", B, 3, 0, 7)?;
+    let first = unit.propose("P,0,412077", 412077)?;
+    let check0 = unit.deliver("D,0,0", &first)?;
+    let (check1, second1) = unit_1(rt, &first, &check0)?;
+    unit.deliver("D,0,1", &check0)?;
+    unit.deliver("W,0,2", &check1)?;
+    unit.key_off();
+    println!(rt; "D,0,3: the unit is down, there is no call")?;
+    unit.key_on("U,0")?;
     unit_2(rt, &check0, &check1, &second1)
 }
 
-// The table's examples of 1, 2, 4 and 5. An output buffer holds other bytes before.
+// The table's examples of 1, 2, 4 and 5.
 fn examples<P: Print>(rt: &P) -> io::Result<()> {
-    let mut log = [JUNK; limits::LOG_SIZE];
-    let mut image = [JUNK; limits::IMAGE_SIZE];
-    let mut m = [JUNK; limits::MESSAGE_SIZE];
-    let mut out = [JUNK; limits::MESSAGE_SIZE];
-    let short = [70u8, 66, 3, 0, 255, 0, 0, 7, 0, 0, 0, 0, 0, 5, 0, 0, 0];
-    show::start(rt, "2: n = 2", B, 2, 0, 7, &mut log, &mut image)?;
-    show::start(rt, "unit 2 of 3", B, 3, 2, 7, &mut log, &mut image)?;
-    show::deliver(
-        rt,
-        "1: message of 17 bytes",
-        &mut log,
-        &mut image,
-        &short,
-        &mut out,
-    )?;
-    put_message(F, 0, EVERYONE, 0, 5, 5, &mut m);
-    m[0] = b'Z';
-    out = [JUNK; limits::MESSAGE_SIZE];
-    show::deliver(rt, "4: kind letter Z", &mut log, &mut image, &m, &mut out)?;
-    put_message(K, 0, 1, 4, limits::BLANK, limits::BLANK, &mut m);
-    out = [JUNK; limits::MESSAGE_SIZE];
-    show::deliver(
-        rt,
-        "5: K for unit 1, handed to 2",
-        &mut log,
-        &mut image,
-        &m,
-        &mut out,
-    )
+    let mut unit = PrintedUnit::new(rt);
+    unit.start("2: n = 2", B, 2, 0, 7)?;
+    unit.start("unit 2 of 3", B, 3, 2, 7)?;
+    let mut message = MessageFields::first(0).bytes();
+    let short = &message[..limits::MESSAGE_SIZE - 1];
+    unit.deliver("1: message of 17 bytes", short)?;
+    message[0] = b'Z';
+    unit.deliver("4: kind letter Z", &message)?;
+    let skip = MessageFields::skip(4).bytes();
+    unit.deliver("5: K for unit 1, handed to 2", &skip)?;
+    Ok(())
 }
 
 // Of 6, and 9,999,999 beside it.
 fn mileages<P: Print>(rt: &P) -> io::Result<()> {
-    let mut log = [JUNK; limits::LOG_SIZE];
-    let mut image = [JUNK; limits::IMAGE_SIZE];
-    let mut out = [JUNK; limits::MESSAGE_SIZE];
-    put_log(2, 0, &mut log);
-    show::key_on(rt, "unit 2 at round 0", &log, &mut image)?;
-    show::propose(
-        rt,
-        "6: 10,000,000",
-        &log,
-        &mut image,
-        limits::MAX_MILEAGE + 1,
-        &mut out,
-    )?;
-    show::propose(
-        rt,
-        "9,999,999 is accepted",
-        &log,
-        &mut image,
-        limits::MAX_MILEAGE,
-        &mut out,
-    )
+    let mut unit = PrintedUnit::new(rt);
+    unit.log = blank_log(2, 0);
+    unit.key_on("unit 2 at round 0")?;
+    unit.propose("6: 10,000,000", limits::MAX_MILEAGE + 1)?;
+    unit.propose("9,999,999 is accepted", limits::MAX_MILEAGE)?;
+    Ok(())
 }
 
 // Of 3.
 fn image_behind<P: Print>(rt: &P) -> io::Result<()> {
-    let mut log = [JUNK; limits::LOG_SIZE];
-    let mut image = [JUNK; limits::IMAGE_SIZE];
-    let mut m = [JUNK; limits::MESSAGE_SIZE];
-    let mut out = [JUNK; limits::MESSAGE_SIZE];
-    put_log(2, 3, &mut log);
-    show::key_on(rt, "unit 2 at round 3", &log, &mut image)?;
-    put_log(2, 4, &mut log);
-    put_message(F, 0, EVERYONE, 4, 5, 5, &mut m);
-    show::deliver(
-        rt,
-        "3: log at round 4, image at 3",
-        &mut log,
-        &mut image,
-        &m,
-        &mut out,
-    )
-}
-
-// A SECOND with mileage 5.
-fn second<P: Print>(
-    rt: &P,
-    name: &str,
-    sender: u32,
-    round: u32,
-    log: &mut [u8; limits::LOG_SIZE],
-    image: &mut [u8; limits::IMAGE_SIZE],
-) -> io::Result<()> {
-    let mut m = [JUNK; limits::MESSAGE_SIZE];
-    let mut out = [JUNK; limits::MESSAGE_SIZE];
-    put_message(S, sender, EVERYONE, round, 5, limits::BLANK, &mut m);
-    show::deliver(rt, name, log, image, &m, &mut out)
+    let mut unit = PrintedUnit::new(rt);
+    unit.log = blank_log(2, 3);
+    unit.key_on("unit 2 at round 3")?;
+    unit.log = blank_log(2, 4);
+    let first = MessageFields::first(4).bytes();
+    unit.deliver("3: log at round 4, image at 3", &first)?;
+    Ok(())
 }
 
 // Round 9,998 is closed, with a decision; round 9,999 is not: the example of 7.
 fn last_rounds<P: Print>(rt: &P) -> io::Result<()> {
-    let mut log = [JUNK; limits::LOG_SIZE];
-    let mut image = [JUNK; limits::IMAGE_SIZE];
-    put_log(0, BEFORE_LAST, &mut log);
-    show::key_on(rt, "unit 0 at round 9,998", &log, &mut image)?;
-    second(
-        rt,
-        "SECOND of unit 1 in 9,998",
-        1,
-        BEFORE_LAST,
-        &mut log,
-        &mut image,
-    )?;
-    second(
-        rt,
-        "SECOND of unit 2 in 9,998",
-        2,
-        BEFORE_LAST,
-        &mut log,
-        &mut image,
-    )?;
-    second(
-        rt,
-        "SECOND of unit 1 in 9,999",
-        1,
-        LAST,
-        &mut log,
-        &mut image,
-    )?;
-    second(
-        rt,
-        "7: n = 3, B, one mark there, another comes",
-        2,
-        LAST,
-        &mut log,
-        &mut image,
-    )?;
-    second(
-        rt,
-        "SECOND of unit 1 in 9,999 again",
-        1,
-        LAST,
-        &mut log,
-        &mut image,
-    )
+    let mut unit = PrintedUnit::new(rt);
+    unit.log = blank_log(0, BEFORE_LAST);
+    unit.key_on("unit 0 at round 9,998")?;
+    let of_1 = MessageFields::second(1, BEFORE_LAST).bytes();
+    let of_2 = MessageFields::second(2, BEFORE_LAST).bytes();
+    unit.deliver("SECOND of unit 1 in 9,998", &of_1)?;
+    unit.deliver("SECOND of unit 2 in 9,998", &of_2)?;
+    let last_of_1 = MessageFields::second(1, LAST).bytes();
+    let last_of_2 = MessageFields::second(2, LAST).bytes();
+    unit.deliver("SECOND of unit 1 in 9,999", &last_of_1)?;
+    unit.deliver("7: n = 3, B, one mark there, another comes", &last_of_2)?;
+    unit.deliver("SECOND of unit 1 in 9,999 again", &last_of_1)?;
+    Ok(())
 }
 
 fn main(rt: HostRuntime) -> io::Result<()> {

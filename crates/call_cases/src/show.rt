@@ -1,112 +1,118 @@
-// Calls, each printed with what it answers and what every buffer holds afterwards.
-ghost use Rattle.std.specs.Prelude.{◌≤◌, length};
+// Calls on a unit's log and image, each printed with what it answers and what every buffer holds afterwards.
+use std::{fmt, io};
+use tally::{Refusal, limits};
 
-use std::io;
-use tally::limits;
+// What a buffer holds before it is written.
+pub(crate) const JUNK: u8 = 170;
 
 // Where the CHECKs and the SECONDs of an image begin.
 const CHECKS: usize = limits::LOG_SIZE;
 
 const SECONDS: usize = CHECKS + 2 + 4 * limits::SENDERS;
 
-// The bytes from one place to another, in hexadecimal on a line of their own.
-fn line<P: Print>(rt: &P, label: &str, bytes: &[u8], from: usize, to: usize) -> io::Result<()>
-    requires { to ≤ length bytes.now }
-{
-    print!(rt; "{label}")?;
-    for i in from..to {
-        let b = bytes[i];
-        print!(rt; "{b:02x}")?;
+pub(crate) type LogBytes = [u8; limits::LOG_SIZE];
+
+pub(crate) type MessageBytes = [u8; limits::MESSAGE_SIZE];
+
+// Bytes that are printed in hexadecimal.
+#[derive(Clone, Copy)]
+struct Hex<'a>(&'a [u8]);
+
+impl fmt::Display for Hex<'_> {
+    fn fmt<W: fmt::Write>(&self, f: &mut fmt::Formatter<W>) -> fmt::Result {
+        for b in self.0 {
+            write!(f, "{b:02x}")?;
+        }
+        Ok(())
     }
-    println!(rt)
 }
 
-// Log and image. An image has bytes laid out as a log, the CHECKs and the SECONDs.
-fn buffers<P: Print>(
-    rt: &P,
-    log: &[u8; limits::LOG_SIZE],
-    image: &[u8; limits::IMAGE_SIZE],
-) -> io::Result<()> {
-    line(rt, "  log      ", log, 0, limits::LOG_SIZE)?;
-    line(rt, "  image    ", image, 0, CHECKS)?;
-    line(rt, "  checks   ", image, CHECKS, SECONDS)?;
-    line(rt, "  seconds  ", image, SECONDS, limits::IMAGE_SIZE)
+// A unit's log and image, and where the calls on them are printed.
+#[derive(Drop)]
+pub(crate) struct PrintedUnit<'a, P> {
+    rt: &'a P,
+    pub(crate) log: LogBytes,
+    image: [u8; limits::IMAGE_SIZE],
 }
 
-pub(crate) fn title<P: Print>(rt: &P, name: &str) -> io::Result<()> {
-    println!(rt; "{name}")
-}
+impl<'a, P: Print> PrintedUnit<'a, P> {
+    // A unit before its first call.
+    pub(crate) fn new(rt: &'a P) -> Self {
+        PrintedUnit {
+            rt,
+            log: [JUNK; limits::LOG_SIZE],
+            image: [JUNK; limits::IMAGE_SIZE],
+        }
+    }
 
-fn number<P: Print>(rt: &P, name: &str, number: u32) -> io::Result<()> {
-    title(rt, name)?;
-    println!(rt; "  number   {number}")
-}
+    pub(crate) fn start(
+        &mut self,
+        name: &str,
+        engine: u32,
+        n: u32,
+        unit: u32,
+        entry: u32,
+    ) -> io::Result<()> {
+        let answer = unit_calls::start(engine, n, unit, entry, &mut self.log, &mut self.image);
+        self.print_answer(name, answer)?;
+        self.print_buffers()
+    }
 
-pub(crate) fn start<P: Print>(
-    rt: &P,
-    name: &str,
-    engine: u32,
-    n: u32,
-    unit: u32,
-    entry: u32,
-    log: &mut [u8; limits::LOG_SIZE],
-    image: &mut [u8; limits::IMAGE_SIZE],
-) -> io::Result<()> {
-    let told = unit_calls::start(engine, n, unit, entry, log, image);
-    number(rt, name, told)?;
-    buffers(rt, log, image)
-}
+    // The key goes off: the image is lost.
+    pub(crate) fn key_off(&mut self) {
+        self.image = [JUNK; limits::IMAGE_SIZE];
+    }
 
-pub(crate) fn key_on<P: Print>(
-    rt: &P,
-    name: &str,
-    log: &[u8; limits::LOG_SIZE],
-    image: &mut [u8; limits::IMAGE_SIZE],
-) -> io::Result<()> {
-    let told = unit_calls::key_on(log, image);
-    number(rt, name, told)?;
-    buffers(rt, log, image)
-}
+    pub(crate) fn key_on(&mut self, name: &str) -> io::Result<()> {
+        let answer = unit_calls::key_on(&self.log, &mut self.image);
+        self.print_answer(name, answer)?;
+        self.print_buffers()
+    }
 
-pub(crate) fn propose<P: Print>(
-    rt: &P,
-    name: &str,
-    log: &[u8; limits::LOG_SIZE],
-    image: &mut [u8; limits::IMAGE_SIZE],
-    given: u32,
-    out: &mut [u8; limits::MESSAGE_SIZE],
-) -> io::Result<()> {
-    let told = unit_calls::propose(log, image, given, out);
-    number(rt, name, told)?;
-    buffers(rt, log, image)?;
-    line(rt, "  out      ", out, 0, limits::MESSAGE_SIZE)
-}
+    // Hands back the message.
+    pub(crate) fn propose(&mut self, name: &str, mileage: u32) -> io::Result<MessageBytes> {
+        let mut out = [JUNK; limits::MESSAGE_SIZE];
+        let answer = unit_calls::propose(&self.log, &mut self.image, mileage, &mut out);
+        self.print_answer(name, answer)?;
+        self.print_buffers()?;
+        self.print_line("out", &Hex(&out))?;
+        Ok(out)
+    }
 
-fn delivered<P: Print>(
-    rt: &P,
-    name: &str,
-    told: u32,
-    decision: u32,
-    log: &[u8; limits::LOG_SIZE],
-    image: &[u8; limits::IMAGE_SIZE],
-    out: &[u8; limits::MESSAGE_SIZE],
-) -> io::Result<()> {
-    number(rt, name, told)?;
-    println!(rt; "  decision {decision}")?;
-    buffers(rt, log, image)?;
-    line(rt, "  out      ", out, 0, limits::MESSAGE_SIZE)
-}
+    // Hands back the message that answers it.
+    pub(crate) fn deliver(&mut self, name: &str, message: &[u8]) -> io::Result<MessageBytes> {
+        let mut out = [JUNK; limits::MESSAGE_SIZE];
+        let mut decision = 0;
+        let answer = unit_calls::deliver(
+            &mut self.log,
+            &mut self.image,
+            message,
+            &mut out,
+            &mut decision,
+        );
+        self.print_answer(name, answer)?;
+        self.print_line("decision", &decision)?;
+        self.print_buffers()?;
+        self.print_line("out", &Hex(&out))?;
+        self.print_line("message", &Hex(message))?;
+        Ok(out)
+    }
 
-pub(crate) fn deliver<P: Print>(
-    rt: &P,
-    name: &str,
-    log: &mut [u8; limits::LOG_SIZE],
-    image: &mut [u8; limits::IMAGE_SIZE],
-    message: &[u8],
-    out: &mut [u8; limits::MESSAGE_SIZE],
-) -> io::Result<()> {
-    let mut decision: u32 = 0;
-    let told = unit_calls::deliver(log, image, message, out, &mut decision);
-    delivered(rt, name, told, decision, log, image, out)?;
-    line(rt, "  message  ", message, 0, message.len())
+    // The call's name, and the number that it answers.
+    fn print_answer(&self, name: &str, answer: Result<(), Refusal>) -> io::Result<()> {
+        println!(self.rt; "{name}")?;
+        self.print_line("number", &tally::number(answer.err()))
+    }
+
+    // Log and image. An image has bytes laid out as a log, the CHECKs and the SECONDs.
+    fn print_buffers(&self) -> io::Result<()> {
+        self.print_line("log", &Hex(&self.log))?;
+        self.print_line("image", &Hex(&self.image[..CHECKS]))?;
+        self.print_line("checks", &Hex(&self.image[CHECKS..SECONDS]))?;
+        self.print_line("seconds", &Hex(&self.image[SECONDS..]))
+    }
+
+    fn print_line(&self, label: &str, shown: &impl fmt::Display) -> io::Result<()> {
+        println!(self.rt; "  {label:<8} {shown}")
+    }
 }

@@ -1,4 +1,5 @@
 -- The calls on the bytes of well-formed units and messages answer what the step does, as bytes. Assumes nothing.
+use Rattle.std.specs.Prelude.{Option, Some, None}
 use Prim.Native.Nat.{ℕ}
 use mathlib.Core.Path.{◌≡◌, refl, sym, ap, ap₂, ◌∙◌}
 use mathlib.Core.Bool.{Bool, true, false, cond}
@@ -20,8 +21,6 @@ use Rattle.formats.specs.Formats.{reading, Format, to_bytes}
 use Rattle.formats.specs.Images.{image_format, read_image, image_bytes}
 use Rattle.formats.specs.Logs.{log_format, read_log}
 use Rattle.formats.specs.Messages.{message_format, read_message, empty_bytes, cleared}
-use Rattle.formats.specs.declared.EngineRead.{EngineRead}
-use Rattle.formats.specs.declared.EngineRead.TheVariants.{Is, Unknown}
 use Rattle.formats.proofs.ImageFormat as image
 use Rattle.formats.proofs.LogFormat as log
 use Rattle.formats.proofs.MessageFormat as message
@@ -47,11 +46,11 @@ accepted l a = called 0 (answered l a).log (answered l a).image (answered l a).o
 -- a start that is accepted
 pub record Started (l : Limits) (engine n unit entry : ℕ) (c : CallAnswer) : Type 0 where
   pub known : Engine
-  pub letter : engine_of engine ≡ Is known
-  pub range : settings_ok (settings_for (Is known) n unit entry) ≡ true
+  pub letter : engine_of engine ≡ Some known
+  pub range : settings_ok (settings_for (Some known) n unit entry) ≡ true
   pub answer : c
-      ≡ called 0 (log_bytes l (unit_log (fresh (settings_for (Is known) n unit entry))))
-      (image_bytes l (unit_image (fresh (settings_for (Is known) n unit entry)))) [] blank_code
+      ≡ called 0 (log_bytes l (unit_log (fresh (settings_for (Some known) n unit entry))))
+      (image_bytes l (unit_image (fresh (settings_for (Some known) n unit entry)))) [] blank_code
 
 length_bytes : {A : Type 0} (f : Format A) (Typed : A → Type 0) (law : LawfulFormat f Typed) (a : A) → Typed a → f.ok a ≡ true
     → length (to_bytes f a) ≡ f.size
@@ -106,13 +105,13 @@ module _ (l : Limits) (sane : Sane l) where
     unit_image_lem = rw ((read_log_lem (unit_log u) w.log).0, (read_image_lem u w).0, w.fit)
 
     -- where the conditions of a call come to those of the method, the call's answer is the method's, as bytes
-    same_answer : (cs late : List Condition) (a : Answer) (out : List ℕ) → first_refusal cs ≡ first_refusal late → a.refusal ≡ Refusal.None
+    same_answer : (cs late : List Condition) (a : Answer) (out : List ℕ) → first_refusal cs ≡ first_refusal late → a.refusal ≡ None
         → length out ≡ message_size l → unless_refused l cs log_b image_b out (accepted l a) ≡ answered l (unless late u a)
     unfolding unless message_bytes cleared
     same_answer cs late a out same none size =
         rw (same, eq-eqb (length out) (message_size l) size) (go (first_refusal late) (eqb (number_of (first_refusal late)) 0) refl)
       where
-        go : (k : Refusal) (b : Bool) → eqb (number_of k) 0 ≡ b
+        go : (k : Option Refusal) (b : Bool) → eqb (number_of k) 0 ≡ b
             → cond b (accepted l a) (called (number_of k) log_b image_b (empty_bytes l) blank_code) ≡ answered l (cond b a (refuses u k))
         go k true e = ap (λ r. called (number_of r) (answered l a).log (answered l a).image (answered l a).out (answered l a).decision) (sym none)
         go k false e = refl
@@ -186,7 +185,7 @@ module _ (l : Limits) (sane : Sane l) where
       cs : NoneHolds (start_call_conditions l engine n unit entry log image)
       cs = (start_refusing l engine n unit entry log image).number.accepted zero
 
-      go : (o : EngineRead) → engine_of engine ≡ o → bad_settings o n unit entry ≡ false
+      go : (o : Option Engine) → engine_of engine ≡ o → bad_settings o n unit entry ≡ false
           → Started l engine n unit entry (start_call l engine n unit entry log image)
-      go Unknown e h = never (sym h)
-      go (Is g) e h = record { known = g; letter = e; range = not-false (numbers_ok n unit entry) h; answer = rw (cs.0, e, h) }
+      go None e h = never (sym h)
+      go (Some g) e h = record { known = g; letter = e; range = not-false (numbers_ok n unit entry) h; answer = rw (cs.0, e, h) }

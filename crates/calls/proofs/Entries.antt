@@ -1,7 +1,8 @@
 -- What the code of the four calls meets on its way: what is refused, and what is stored. Assumes nothing.
+use Rattle.std.specs.Prelude.{Option, Some, None}
 use Prim.Native.Nat.{ℕ, ◌<◌, ◌^◌}
 use mathlib.Core.Path.{◌≡◌, refl, sym, ◌∙◌}
-use mathlib.Core.Bool.{Bool, true, false, not, ◌&&◌, ◌||◌}
+use mathlib.Core.Bool.{Bool, true, false, not, cond, ◌&&◌, ◌||◌}
 use mathlib.Core.List.{List}
 use native.Mathlib.Omega.{arith}
 use lib.ListN.{length}
@@ -17,6 +18,7 @@ use Rattle.contents.specs.Logs.{numbers_ok}
 use Rattle.contents.specs.declared.Image.{Image}
 use Rattle.contents.specs.declared.Log.{Log}
 use Rattle.contents.specs.declared.Message.{Message}
+use Rattle.contents.specs.declared.Settings.{Settings}
 use Rattle.contents.proofs.Tests.{both_true}
 use Rattle.contents.proofs.Facts.{numbers_facts}
 use Rattle.formats.specs.Codes.{engine_of}
@@ -25,15 +27,14 @@ use Rattle.formats.specs.Images.{image_format, image_bytes}
 use Rattle.formats.specs.Logs.{log_format, no_log, read_log}
 use Rattle.formats.specs.Messages.{message_format, read_message}
 use Rattle.formats.specs.InnerFormats.{stored}
-use Rattle.formats.specs.declared.EngineRead.{EngineRead}
-use Rattle.formats.specs.declared.EngineRead.TheVariants.{Is, Unknown}
 use Rattle.formats.proofs.Letters.{letter_engine, letter_fits}
 use Rattle.formats.proofs.LogFormat as log
 use Rattle.formats.proofs.MessageFormat as message
 use Rattle.formats.proofs.RoundTrips.{refused_number, read_fields}
 use Rattle.formats.proofs.Steps.{stored_contents}
-use Rattle.calls.specs.Calls.{wrong_length, unit_lengths, bad_log, bad_settings, bad_message, log_bytes}
-use Rattle.calls.specs.InnerCalls.{settings_narrow}
+use Rattle.calls.specs.Calls.{wrong_length, unit_lengths, bad_log, bad_settings, settings_for, bad_message, log_bytes}
+use Rattle.calls.specs.InnerCalls.{settings_narrow, settings_from}
+use Rattle.tally.specs.declared.Engine.{Engine}
 
 neither : (a b : Bool) → (a || b) ≡ false → (a ≡ false) × (b ≡ false)
 neither false false e = (refl, refl)
@@ -69,9 +70,9 @@ module _ (engine n unit entry : ℕ) where
   unfolding settings_narrow bad_settings
   settings_too_large h = go (engine_of engine) refl
     where
-      go : (o : EngineRead) → engine_of engine ≡ o → bad_settings o n unit entry ≡ true
-      go Unknown e = refl
-      go (Is g) e = by (numbers_ok n unit entry) refl
+      go : (o : Option Engine) → engine_of engine ≡ o → bad_settings o n unit entry ≡ true
+      go None e = refl
+      go (Some g) e = by (numbers_ok n unit entry) refl
         where
           by : (b : Bool) → numbers_ok n unit entry ≡ b → not b ≡ true
           by false ok = refl
@@ -86,16 +87,37 @@ module _ (engine n unit entry : ℕ) where
                 lt-ltb entry (256 ^ 2) (omega (arith, f.entry_high, entry_fits)),
               )
 
+-- where settings are read they are good, and else they are out of range
+module _ (engine n unit entry : ℕ) where
+  pub settings_bad : settings_from engine n unit entry ≡ None → bad_settings (engine_of engine) n unit entry ≡ true
+  settings_bad = go (bad_settings (engine_of engine) n unit entry) refl
+    where
+      go : (t : Bool) → bad_settings (engine_of engine) n unit entry ≡ t
+          → ◌≡◌ {A = Option Settings} (cond t None (Some (settings_for (engine_of engine) n unit entry))) None
+          → bad_settings (engine_of engine) n unit entry ≡ true
+      go true e h = e
+      go false e h = never cc
+
+  pub settings_good : (s : Settings) → settings_from engine n unit entry ≡ Some s
+      → (bad_settings (engine_of engine) n unit entry ≡ false) × (settings_for (engine_of engine) n unit entry ≡ s)
+  settings_good s = go (bad_settings (engine_of engine) n unit entry) refl
+    where
+      go : (t : Bool) → bad_settings (engine_of engine) n unit entry ≡ t
+          → ◌≡◌ {A = Option Settings} (cond t None (Some (settings_for (engine_of engine) n unit entry))) (Some s)
+          → (bad_settings (engine_of engine) n unit entry ≡ false) × (settings_for (engine_of engine) n unit entry ≡ s)
+      go true e h = never cc
+      go false e h = (e, cc)
+
 -- ---- what is read
 
 module _ (l : Limits) (sane : Sane l) (bs : List ℕ) where
-  pub log_refused : (k : Refusal) → reading (number_of k) no_log ≡ read_log l bs → bad_log l bs ≡ true
+  pub log_refused : (k : Refusal) → reading (number_of (Some k)) no_log ≡ read_log l bs → bad_log l bs ≡ true
   unfolding bad_log read_log
-  log_refused k e = rw (← e, refused_number (log_format l) (λ r. Unit) (log.lawful l sane) bs (number_of k) (sym e))
+  log_refused k e = rw (← e, refused_number (log_format l) (λ r. Unit) (log.lawful l sane) bs (number_of (Some k)) (sym e))
 
-  pub message_refused : (k : Refusal) → reading (number_of k) empty_message ≡ read_message l bs → bad_message l bs ≡ true
+  pub message_refused : (k : Refusal) → reading (number_of (Some k)) empty_message ≡ read_message l bs → bad_message l bs ≡ true
   unfolding bad_message read_message
-  message_refused k e = rw (← e, refused_number (message_format l) (λ m. Unit) (message.lawful l sane) bs (number_of k) (sym e))
+  message_refused k e = rw (← e, refused_number (message_format l) (λ m. Unit) (message.lawful l sane) bs (number_of (Some k)) (sym e))
 
   -- a message that was read is well formed
   pub message_ok_lem : (m : Message) → reading 0 m ≡ read_message l bs → message_ok l m ≡ true

@@ -1,9 +1,9 @@
 -- The calls over any lawful format: what writing contents answers, and both round trips between fields and bytes. Assumes nothing.
+use Rattle.std.specs.Prelude.{Some}
 use Prim.Native.Nat.{ℕ, ◌+◌, ◌≤◌}
 use mathlib.Core.Path.{◌≡◌, refl, sym, ap}
 use mathlib.Core.Bool.{Bool, true, false, cond, ◌&&◌}
 use mathlib.Core.List.{List, append-nil}
-use mathlib.Core.Option.{some}
 use native.Mathlib.Omega.{arith}
 use lib.Dec.{eqb}
 use lib.ListN.{length, drop_of_length-le}
@@ -31,7 +31,7 @@ sets_whole fs vs e =
 
 module _ {A : Type 0} (f : Format A) (law : LawfulFormat f (λ a. Unit)) where
   -- contents that were parsed are written as contents are
-  pub put_checked_lem : (a : A) (kept bs : List ℕ) → length bs ≡ f.size → put_checked f (checked f (some a)) kept ≡ write_bytes f a kept bs
+  pub put_checked_lem : (a : A) (kept bs : List ℕ) → length bs ≡ f.size → put_checked f (checked f (Some a)) kept ≡ write_bytes f a kept bs
   put_checked_lem a kept bs len = rw (eq-eqb (length bs) f.size len) (go (f.ok a))
     where
       go : (t : Bool) → put_checked f (cond t (reading 0 a) (reading f.malformed f.nothing)) kept ≡ cond t (wrote 0 (to_bytes f a))
@@ -72,8 +72,8 @@ module _ {A : Type 0} (f : Format A) (law : LawfulFormat f (λ a. Unit)) where
           r = from_numbers f fs
 
           go : (t : Bool) → (eqb (length fs) f.fields && eqb (length bs) f.size) ≡ t → (cond t (put_checked f r (kept bs))
-              (wrote (number_of Length) (kept bs))).number ≡ 0
-              → read_call f (cond t (put_checked f r (kept bs)) (wrote (number_of Length) (kept bs))).out out ≡ wrote 0 fs
+              (wrote (number_of (Some Length)) (kept bs))).number ≡ 0
+              → read_call f (cond t (put_checked f r (kept bs)) (wrote (number_of (Some Length)) (kept bs))).out out ≡ wrote 0 fs
           go false l e = absurd (omega arith)
           go true l e = by (eqb r.number 0) refl e
             where
@@ -92,8 +92,8 @@ module _ {A : Type 0} (f : Format A) (law : LawfulFormat f (λ a. Unit)) where
           r : ReadAnswer A
           r = read_bytes f bs
 
-          go : (t : Bool) → (cond t (put_numbers f r fs) (wrote (number_of Length) fs)).number ≡ 0
-              → write_call f (cond t (put_numbers f r fs) (wrote (number_of Length) fs)).out (kept out) out ≡ wrote 0 bs
+          go : (t : Bool) → (cond t (put_numbers f r fs) (wrote (number_of (Some Length)) fs)).number ≡ 0
+              → write_call f (cond t (put_numbers f r fs) (wrote (number_of (Some Length)) fs)).out (kept out) out ≡ wrote 0 bs
           go false e = absurd (omega arith)
           go true e = by (eqb r.number 0) refl e
             where

@@ -1,4 +1,5 @@
 -- What the bytes of a log and of an image that fits it hold. Assumes nothing.
+use Rattle.std.specs.Prelude.{Some, None}
 use Prim.Native.Nat.{ℕ}
 use mathlib.Core.Path.{◌≡◌, refl, sym, ap, ◌∙◌}
 use mathlib.Core.Bool.{Bool, true, false, not, cond, ◌&&◌}
@@ -25,7 +26,6 @@ use Rattle.formats.specs.InnerImages.{fit_state, checks_at, seconds_at, tally_fr
 use Rattle.formats.specs.Logs.{log_format, read_log}
 use Rattle.formats.specs.Messages.{message_format, read_message, empty_bytes, cleared}
 use Rattle.formats.specs.Numbers.{Bytes}
-use Rattle.formats.specs.declared.StateRead.{StateRead}
 use Rattle.formats.proofs.ImageFormat as images
 use Rattle.formats.proofs.LogFormat as logs
 use Rattle.formats.proofs.MessageFormat as messages
@@ -86,21 +86,21 @@ module _ (log image : List ℕ) (r : Log) (read : reading 0 r ≡ read_log today
   test = eqb (read_image today image).number 0 && fits (read_image today image).contents r
 
   -- an image that does not fit it
-  pub image_bad : fit_state (read_image today image) r ≡ StateRead.Unfit → bad_image today log image ≡ true
+  pub image_bad : fit_state (read_image today image) r ≡ None → bad_image today log image ≡ true
   unfolding fit_state bad_image
   image_bad h = rw (← read) (go test h)
     where
-      go : (b : Bool) → cond b (StateRead.Fits (read_image today image).contents.state) StateRead.Unfit ≡ StateRead.Unfit → not b ≡ true
+      go : (b : Bool) → cond b (Some (read_image today image).contents.state) None ≡ None → not b ≡ true
       go true e = never cc
       go false e = refl
 
   -- an image that does
-  module _ (s : State) (fit : fit_state (read_image today image) r ≡ StateRead.Fits s) where
+  module _ (s : State) (fit : fit_state (read_image today image) r ≡ Some s) where
     tested : (test ≡ true) × ((read_image today image).contents.state ≡ s)
     unfolding fit_state
     tested = go test refl fit
       where
-        go : (b : Bool) → test ≡ b → cond b (StateRead.Fits (read_image today image).contents.state) StateRead.Unfit ≡ StateRead.Fits s
+        go : (b : Bool) → test ≡ b → cond b (Some (read_image today image).contents.state) None ≡ Some s
             → (test ≡ true) × ((read_image today image).contents.state ≡ s)
         go true e h = (e, cc)
         go false e h = never cc

@@ -3,7 +3,7 @@ use Prim.Native.Nat.{ℕ, zero, suc, ◌^◌, ◌≤◌, ◌<◌}
 use mathlib.Core.Path.{◌≡◌, refl, sym, ap, ◌∙◌}
 use mathlib.Core.Bool.{Bool, true, false, cond, ◌&&◌, and-true, false≢true}
 use mathlib.Core.List.{List, [], ◌∷◌, ◌++◌}
-use mathlib.Core.Option.{Option, none, some}
+use Rattle.std.specs.Prelude.{Option, Some, None}
 use native.Mathlib.Omega.{arith}
 use lib.Dec.{ltb}
 use lib.ListN.{length, get_or, take, drop, length-append}
@@ -81,8 +81,8 @@ too_large f law vs k len wide = go (f.parse vs) refl
         false≢true (sym wide ∙ fit_narrow true (without z f.widths) vs [] 0 k refl (rw (without_zero z vs below) at condition))
 
     go : (o : Option _) → f.parse vs ≡ o → checked f o ≡ reading f.malformed f.nothing
-    go none p = refl
-    go (some a) p = by (f.ok a) refl
+    go None p = refl
+    go (Some a) p = by (f.ok a) refl
       where
         by : (t : Bool) → f.ok a ≡ t → cond t (reading 0 a) (reading f.malformed f.nothing) ≡ reading f.malformed f.nothing
         by true ok = absurd (fits (rw (law.back vs a len p) at (law.fit a tt ok)))

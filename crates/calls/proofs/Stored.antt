@@ -1,4 +1,5 @@
 -- What a call stores of its unit's answer is the answer, as bytes. Assumes nothing.
+use Rattle.std.specs.Prelude.{None}
 use Prim.Native.Nat.{ℕ}
 use mathlib.Core.Path.{◌≡◌, refl, sym, ap, ap₂, ◌∙◌}
 use mathlib.Core.Bool.{Bool, true, false, cond}
@@ -9,7 +10,6 @@ use lib.ListN.{length, length-replicate}
 use borrow.Author.Tests.{eq-eqb}
 use Rattle.tally.specs.Limits.{today, blank_code, image_size, message_size}
 use Rattle.tally.specs.Refusal.{number_of}
-use Rattle.tally.specs.declared.Refusal.{Refusal}
 use Rattle.tally.specs.declared.Tally.{Tally}
 use Rattle.tally.proofs.Bounds.{sane_today}
 use Rattle.tally.proofs.Never.{never}
@@ -95,7 +95,7 @@ module _ (log image : List ℕ) (u : U.Unit) (h : Held log image u) where
         go Skip = stored_contents (message_format today) out m size
 
     -- a refusal stores nothing, and the answer is the unit's own
-    refused_there : (cs : List Condition) (a : Answer) → a.refusal ≡ Refusal.None → eqb (number_of (unless cs u a).refusal) 0 ≡ false
+    refused_there : (cs : List Condition) (a : Answer) → a.refusal ≡ None → eqb (number_of (unless cs u a).refusal) 0 ≡ false
         → called (number_of (unless cs u a).refusal) log image out blank_code ≡ answered today (unless cs u a)
     unfolding message_bytes
     refused_there cs a none =

@@ -1,4 +1,5 @@
 -- What starting and key-on do not read: where they are accepted, what the buffers held plays no part. Assumes nothing.
+use Rattle.std.specs.Prelude.{Some}
 use Prim.Native.Nat.{ℕ}
 use mathlib.Core.Path.{◌≡◌, refl}
 use mathlib.Core.Bool.{Bool, true, false}
@@ -9,8 +10,8 @@ use Rattle.tally.specs.Limits.{Limits}
 use Rattle.tally.specs.Refusal.{number_of}
 use Rattle.tally.specs.declared.Refusal.{Refusal}
 use Rattle.consensus.specs.Conditions.{condition, first_refusal}
-use Rattle.calls.specs.Calls.{CallAnswer, unless_refused, unit_lengths, bad_log, bad_settings}
-use Rattle.calls.specs.Calls.{start_call_conditions, start_call, key_on_call_conditions, key_on_call}
+use Rattle.calls.specs.Calls.{CallAnswer, unless_refused, unit_lengths, bad_log, bad_settings, start_call_conditions, start_call, key_on_call_conditions}
+use Rattle.calls.specs.Calls.{key_on_call}
 use Rattle.formats.specs.Codes.{engine_of}
 
 module _ (l : Limits) where
@@ -45,12 +46,12 @@ module _ (l : Limits) where
       rw (← lengths log image log image2 refl b) (same (unit_lengths l log image) (bad_log l log) _ log image log image2 h)
 
   never_3 : (a b : Bool) (ok : CallAnswer) (log image : List ℕ) → ok.number ≡ 0
-      → (unless_refused l (condition Refusal.Length a ∷ condition Refusal.Log b ∷ []) log image [] ok).number ≡ number_of Refusal.Image → ⊥
+      → (unless_refused l (condition Refusal.Length a ∷ condition Refusal.Log b ∷ []) log image [] ok).number ≡ number_of (Some Refusal.Image) → ⊥
   unfolding first_refusal
   never_3 true b ok log image zero h = omega (arith, h)
   never_3 false true ok log image zero h = omega (arith, h)
   never_3 false false ok log image zero h = omega (arith, h, zero)
 
-  pub key_on_never_3 : (log image : List ℕ) → (key_on_call l log image).number ≡ number_of Refusal.Image → ⊥
+  pub key_on_never_3 : (log image : List ℕ) → (key_on_call l log image).number ≡ number_of (Some Refusal.Image) → ⊥
   unfolding key_on_call key_on_call_conditions
   key_on_never_3 log image h = never_3 (unit_lengths l log image) (bad_log l log) _ log image refl h

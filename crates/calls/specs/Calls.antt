@@ -1,5 +1,5 @@
 -- The four calls of a unit over bytes: the conditions that refuse, in order, and else the step. Assumes nothing.
-use Rattle.std.specs.Prelude.{ℕ, Bool, true, not, cond, ◌&&◌, ◌||◌, List, [], ◌∷◌, ◌≡◌, eqb, length}
+use Rattle.std.specs.Prelude.{ℕ, Bool, true, not, cond, ◌&&◌, ◌||◌, List, [], ◌∷◌, ◌≡◌, eqb, length, Option, Some, None}
 use Rattle.tally.specs.Limits.{Limits, blank_code, log_size, image_size, message_size}
 use Rattle.tally.specs.Refusal.{number_of}
 use Rattle.tally.specs.declared.Engine.TheVariants.{B}
@@ -16,14 +16,13 @@ use Rattle.formats.specs.Formats.{ReadAnswer, to_bytes}
 use Rattle.formats.specs.Images.{read_image, image_bytes}
 use Rattle.formats.specs.Logs.{log_format, read_log}
 use Rattle.formats.specs.Messages.{message_format, read_message, empty_bytes, cleared}
-use Rattle.formats.specs.declared.EngineRead.{EngineRead}
-use Rattle.formats.specs.declared.EngineRead.TheVariants.{Is, Unknown}
 use Rattle.consensus.specs.Methods.{for_other, out_of_range, closes_last}
 use Rattle.consensus.specs.Conditions.{Condition, condition, first_refusal, LowestNumber}
 use Rattle.consensus.specs.Step.{fresh, recovered, proposed, received}
 use Rattle.consensus.specs.Units.{unit_log, unit_image, up_unit, down_unit}
 use Rattle.consensus.specs.declared.Answer.{Answer}
 use Rattle.consensus.specs.declared.Unit as U
+use Rattle.tally.specs.declared.Engine.{Engine}
 
 -- what a call answers: its number, what the log, image and output buffers hold at exit, and the decision as it is stored
 pub record CallAnswer : Type 0 where
@@ -61,9 +60,9 @@ unfoldable pub bad_log : Limits → List ℕ → Bool
 bad_log l log = unread (read_log l log)
 
 -- 2: fresh-unit settings out of range; an unknown engine letter counts as such
-unfoldable pub bad_settings : EngineRead → ℕ → ℕ → ℕ → Bool
-bad_settings Unknown n unit entry = true
-bad_settings (Is g) n unit entry = not (numbers_ok n unit entry)
+unfoldable pub bad_settings : Option Engine → ℕ → ℕ → ℕ → Bool
+bad_settings None n unit entry = true
+bad_settings (Some g) n unit entry = not (numbers_ok n unit entry)
 
 -- 3: image malformed or not fitting
 unfoldable pub bad_image : Limits → List ℕ → List ℕ → Bool
@@ -99,9 +98,9 @@ unit_of l log image = up_unit (read_log l log).contents (read_image l image).con
 -- ---- the calls
 
 -- B stands in the place of an engine that is not known
-abbrev pub settings_for : EngineRead → ℕ → ℕ → ℕ → Settings
-settings_for Unknown n unit entry = record { engine = B; n = n; unit = unit; entry = entry }
-settings_for (Is g) n unit entry = record { engine = g; n = n; unit = unit; entry = entry }
+abbrev pub settings_for : Option Engine → ℕ → ℕ → ℕ → Settings
+settings_for None n unit entry = record { engine = B; n = n; unit = unit; entry = entry }
+settings_for (Some g) n unit entry = record { engine = g; n = n; unit = unit; entry = entry }
 
 -- 1 and 2
 unfoldable pub start_call_conditions : Limits → ℕ → ℕ → ℕ → ℕ → List ℕ → List ℕ → List Condition

@@ -1,5 +1,5 @@
 -- Logs and messages between plain numbers and bytes: what the four calls of fields answer. Assumes nothing.
-use Rattle.std.specs.Prelude.{ℕ, cond, ◌&&◌, List, ◌≡◌, eqb, length}
+use Rattle.std.specs.Prelude.{ℕ, cond, ◌&&◌, List, ◌≡◌, eqb, length, Some}
 use Rattle.tally.specs.Limits.{Limits}
 use Rattle.tally.specs.Refusal.{number_of}
 use Rattle.tally.specs.declared.Refusal.TheVariants.{Length}
@@ -18,12 +18,12 @@ put_checked f r left = cond (eqb r.number 0) (wrote 0 (to_bytes f r.contents)) (
 
 -- reading bytes into fields: 1 where a length is wrong
 abbrev pub read_call : {A : Type 0} → Format A → List ℕ → List ℕ → WriteAnswer
-read_call f bs fs = cond (eqb (length fs) f.fields) (put_numbers f (read_bytes f bs) fs) (wrote (number_of Length) fs)
+read_call f bs fs = cond (eqb (length fs) f.fields) (put_numbers f (read_bytes f bs) fs) (wrote (number_of (Some Length)) fs)
 
 -- writing fields as bytes: 1 where a length is wrong
 abbrev pub write_call : {A : Type 0} → Format A → List ℕ → List ℕ → List ℕ → WriteAnswer
 write_call f fs left bs =
-    cond (eqb (length fs) f.fields && eqb (length bs) f.size) (put_checked f (from_numbers f fs) left) (wrote (number_of Length) left)
+    cond (eqb (length fs) f.fields && eqb (length bs) f.size) (put_checked f (from_numbers f fs) left) (wrote (number_of (Some Length)) left)
 
 unfoldable pub read_log_call : Limits → List ℕ → List ℕ → WriteAnswer
 read_log_call l bs fs = read_call (log_format l) bs fs

@@ -1,21 +1,27 @@
--- What inner functions of unit_calls promise, of which no public call's contract speaks. Assumes nothing.
-use Rattle.std.specs.Prelude.{ℕ, ◌^◌, Bool, cond, ◌&&◌, List, [], eqb, ltb}
+-- What inner functions of unit_calls and numbers promise, of which no public call's contract speaks. Assumes nothing.
+use Rattle.std.specs.Prelude.{ℕ, ◌^◌, Bool, cond, ◌&&◌, List, [], eqb, ltb, Option, Some, None}
 use Rattle.tally.specs.Limits.{today, blank_code}
 use Rattle.tally.specs.Refusal.{number_of}
 use Rattle.contents.specs.Messages.{is_empty}
 use Rattle.contents.specs.declared.Message.{Message}
-use Rattle.formats.specs.Codes.{code_of}
+use Rattle.contents.specs.declared.Settings.{Settings}
+use Rattle.formats.specs.Codes.{code_of, engine_of}
 use Rattle.formats.specs.InnerImages.{state_over, image_over, in_image}
 use Rattle.formats.specs.Logs.{log_format}
 use Rattle.formats.specs.Messages.{message_format}
 use Rattle.formats.specs.InnerFormats.{stored}
 use Rattle.consensus.specs.Units.{unit_log}
 use Rattle.consensus.specs.declared.Answer.{Answer}
-use Rattle.calls.specs.Calls.{CallAnswer, called}
+use Rattle.calls.specs.Calls.{CallAnswer, called, bad_settings, settings_for}
 
 -- the numbers of a start fit the code's types
 unfoldable pub settings_narrow : ℕ → ℕ → ℕ → ℕ → Bool
 settings_narrow engine n unit entry = ltb engine (256 ^ 1) && ltb n (256 ^ 1) && ltb unit (256 ^ 1) && ltb entry (256 ^ 2)
+
+-- the settings of a start's numbers, where they are in range
+abbrev pub settings_from : ℕ → ℕ → ℕ → ℕ → Option Settings
+settings_from engine n unit entry =
+    cond (bad_settings (engine_of engine) n unit entry) None (Some (settings_for (engine_of engine) n unit entry))
 
 -- a message stored in a cleared buffer: an empty one leaves it
 unfoldable pub stored_message : Message → List ℕ → List ℕ

@@ -1,12 +1,9 @@
--- What inner functions of fields promise, of which no public call's contract speaks. Assumes nothing.
+-- What inner functions of numbers promise, of which no public call's contract speaks. Assumes nothing.
 use Rattle.std.specs.Prelude.{ℕ, suc, ◌-◌, ◌^◌, Bool, true, ◌&&◌, List, [], ◌∷◌, ltb, get_or, take}
 use Rattle.tally.specs.Limits.{Limits, log_fields, message_fields}
-use Rattle.formats.specs.Formats.{WriteAnswer, Format, without, checked}
+use Rattle.formats.specs.Formats.{Format, without}
 use Rattle.formats.specs.Logs.{log_format}
-use Rattle.formats.specs.Messages.{letters_read, message_format, cleared}
-use Rattle.formats.specs.declared.EngineRead.{EngineRead}
-use Rattle.formats.specs.declared.KindRead.{KindRead}
-use Rattle.calls.specs.Fields.{put_checked}
+use Rattle.formats.specs.Messages.{message_format}
 
 -- the numbers from place o on fit these many bytes each
 abbrev pub narrow : Bool → ℕ → List ℕ → List ℕ → Bool
@@ -30,7 +27,3 @@ message_head = message_fields - 2
 
 unfoldable pub message_narrow : Limits → List ℕ → Bool
 message_narrow l vs = narrow true 0 (head_widths (message_format l) message_head) vs
-
--- writing a message whose letters have been looked up
-abbrev pub write_known : Limits → KindRead → EngineRead → List ℕ → List ℕ → WriteAnswer
-write_known l k e fs bs = put_checked (message_format l) (checked (message_format l) (letters_read k e fs)) (cleared l bs)

@@ -1,4 +1,5 @@
-// What the calls on a card ask of a row, from numbers and buffers, and how they store what is told.
+// What the calls on a card ask of a row, from the C entries' numbers and buffers, which go side by side as C has them, and how they store what is told. One
+// function asks and one tells for each entry, so that an entry is calls alone, without a branch.
 ghost use Rattle.std.specs.Prelude.{◌≡◌};
 ghost use Rattle.tally.specs.Limits.{today};
 ghost use Rattle.tally.specs.Refusal.{number_of};
@@ -7,7 +8,6 @@ ghost use Rattle.cards.specs.InnerSteps.{card_call, propose_asks, deliver_asks, 
 
 use cards::{Act, CardCall, Told, UnitStep};
 use contents::Message;
-use formats::MessageRead;
 use tally::limits;
 
 fn card_call(engine: u32, n: u32, unit: u32, row: u32, act: Act) -> CardCall
@@ -35,7 +35,7 @@ pub fn key_on_asks(engine: u32, n: u32, unit: u32, row: u32) -> CardCall
     card_call(engine, n, unit, row, Act::KeyOn)
 }
 
-// `size` is the output buffer's length.
+// `size` is the length of the output buffer, which is written once the row has answered.
 #[tactic(auto, unfolding(cards::specs::InnerSteps::propose_asks))]
 pub fn propose_asks(engine: u32, n: u32, unit: u32, row: u32, mileage: u32, size: usize) -> CardCall
     ensures { result ≡ propose_asks today engine n unit row mileage size }
@@ -43,8 +43,7 @@ pub fn propose_asks(engine: u32, n: u32, unit: u32, row: u32, mileage: u32, size
     if size != limits::MESSAGE_SIZE {
         return card_call(engine, n, unit, row, Act::WrongLength);
     }
-    let s = UnitStep::Propose(mileage);
-    card_call(engine, n, unit, row, Act::Step(s))
+    card_call(engine, n, unit, row, Act::Step(UnitStep::Propose(mileage)))
 }
 
 #[tactic(auto, unfolding(cards::specs::InnerSteps::deliver_asks, calls::specs::Calls::bad_message))]
@@ -55,21 +54,23 @@ pub fn deliver_asks(engine: u32, n: u32, unit: u32, message: &[u8], size: usize)
         return card_call(engine, n, unit, 0, Act::WrongLength);
     }
     match message_codec::read_message(message) {
-        MessageRead::Read(m) => {
-            let s = UnitStep::Deliver(m);
-            card_call(engine, n, unit, codes::wide16(m.entry), Act::Step(s))
-        }
-        MessageRead::Refused(_) => card_call(engine, n, unit, 0, Act::Malformed),
+        Ok(m) => card_call(
+            engine,
+            n,
+            unit,
+            u32::from(m.entry),
+            Act::Step(UnitStep::Deliver(m)),
+        ),
+        Err(_) => card_call(engine, n, unit, 0, Act::Malformed),
     }
 }
 
-// ---- what is told
+// ---- what is told: unit_calls has a put_message of its own, for a buffer that was cleared before
 #[tactic(auto, unfolding(cards::specs::InnerSteps::put_message))]
 fn put_message(m: Message, out: &mut [u8])
     ensures { out.new ≡ put_message today m out.old }
 {
-    let kind = m.kind;
-    if rules::messages::is_empty(kind) {
+    if rules::messages::is_empty(m.kind) {
         message_codec::clear(out);
     } else {
         message_codec::store_message(m, out);
@@ -79,8 +80,7 @@ fn put_message(m: Message, out: &mut [u8])
 pub fn number_of(t: Told) -> u32
     ensures { result ≡ number_of t.refusal }
 {
-    let refusal = t.refusal;
-    tally::number(refusal)
+    tally::number(t.refusal)
 }
 
 // The message goes into the output buffer.
@@ -96,7 +96,6 @@ pub fn tell(t: Told, out: &mut [u8], decision: &mut u32) -> u32
     ensures { (result ≡ number_of t.refusal) × ((out.new ≡ put_message today t.message out.old)
         × (decision.new ≡ code_of t.decision)) }
 {
-    let d = t.decision;
-    *decision = codes::code_of(d);
+    *decision = codes::code_of(t.decision);
     tell_message(t, out)
 }

@@ -3,17 +3,16 @@
 
 pub mod buffers;
 
-ghost use Rattle.std.specs.Prelude.{◌≡◌};
+ghost use Rattle.std.specs.Prelude.{◌≡◌, ◌<◌, ◌+◌, IfOk, IfErr, Some, None};
+ghost use Rattle.std.specs.Result.{result_err};
 ghost use Rattle.tally.specs.Limits.{today};
-ghost use Rattle.calls.specs.InnerCalls.{settings_narrow};
 ghost use Rattle.cards.specs.Calls.{wrong_count, names_no_row};
-ghost use Rattle.cards.specs.InnerSteps.{settings_read, own_log, tells, row_answer, row_answered, with_log, act_of, step_of, is_short, is_malformed};
-ghost use Rattle.cards.specs.InnerSteps.{front, place_of, card_told, card_rows};
+ghost use Rattle.cards.specs.InnerSteps.{settings_read, own_log, tells, row_answer, row_answered, takes, with_log, act_of, step_of, is_short, is_malformed};
+ghost use Rattle.cards.specs.InnerSteps.{front, card_told, card_rows};
 
-use cards::{Act, CardCall, CardRow, SettingsRead, Told, UnitStep};
+use cards::{Act, CardCall, CardRow, Told, UnitStep};
 use consensus::{Answer, Unit, step};
 use contents::{Log, Settings};
-use formats::{EngineRead, LogRead, StateRead};
 use tally::{Estimate, Refusal, limits};
 
 // ---- which row
@@ -21,7 +20,7 @@ use tally::{Estimate, Refusal, limits};
 fn wrong_count(count: usize) -> bool
     ensures { result ≡ wrong_count count }
 {
-    !((limits::MIN_ROWS <= count) & (count <= limits::MAX_ROWS))
+    !(limits::MIN_ROWS..=limits::MAX_ROWS).contains(&count)
 }
 
 fn wide(x: u32) -> usize
@@ -34,64 +33,50 @@ fn wide(x: u32) -> usize
 fn names_no_row(count: usize, k: u32) -> bool
     ensures { result ≡ names_no_row count k }
 {
-    !((1 <= k) & (wide(k) <= count))
+    !(1..=count).contains(&wide(k))
 }
 
 fn is_short(act: Act) -> bool
     ensures { result ≡ is_short act }
 {
-    match act {
-        Act::WrongLength => true,
-        Act::Malformed => false,
-        Act::Start => false,
-        Act::KeyOn => false,
-        Act::Step(_) => false,
-    }
+    matches!(act, Act::WrongLength)
 }
 
 fn is_malformed(act: Act) -> bool
     ensures { result ≡ is_malformed act }
 {
-    match act {
-        Act::WrongLength => false,
-        Act::Malformed => true,
-        Act::Start => false,
-        Act::KeyOn => false,
-        Act::Step(_) => false,
-    }
+    matches!(act, Act::Malformed)
 }
 
-// Why a call has no row; None where it has one.
+// Why a call has no row, where it has none.
 #[tactic(auto, unfolding(cards::specs::InnerSteps::front, cards::specs::InnerSteps::front_conditions, consensus::specs::Conditions::first_refusal))]
-fn front(c: &CardCall, count: usize) -> Refusal
+fn front(c: &CardCall, count: usize) -> Option<Refusal>
     ensures { result ≡ front c.now count }
 {
-    let act = c.act;
-    if wrong_count(count) | is_short(act) {
-        return Refusal::Length;
+    if wrong_count(count) | is_short(c.act) {
+        return Some(Refusal::Length);
     }
-    if is_malformed(act) {
-        return Refusal::Message;
+    if is_malformed(c.act) {
+        return Some(Refusal::Message);
     }
     if names_no_row(count, c.row) {
-        return Refusal::Row;
+        return Some(Refusal::Row);
     }
-    Refusal::None
+    None
 }
 
-// Where the row of a call stands, or the count where there is none.
-#[tactic(auto, unfolding(cards::specs::InnerSteps::place_of))]
-fn place(c: &CardCall, count: usize) -> usize
-    ensures { result ≡ place_of c.now count }
+// Where the row of a call stands, or why it has none. The number of rows is enough: on_row alone has the rows.
+fn place(c: &CardCall, count: usize) -> Result<usize, Refusal>
+    ensures row { IfOk result (λ k. (front c.now count ≡ None) × (k + 1 ≡ c.now.row) × (k < count)) }
+    ensures none { IfErr result (λ why. front c.now count ≡ Some why) }
 {
-    if tally::number(front(c, count)) == 0 {
-        wide(c.row) - 1
-    } else {
-        count
+    match front(c, count) {
+        Some(why) => Err(why),
+        None => Ok(wide(c.row) - 1),
     }
 }
 
-fn tells(refusal: Refusal) -> Told
+fn tells(refusal: Option<Refusal>) -> Told
     ensures { result ≡ tells refusal }
 {
     Told {
@@ -101,61 +86,26 @@ fn tells(refusal: Refusal) -> Told
     }
 }
 
-// What a call without a row tells.
-fn refused(c: &CardCall, count: usize) -> Told
-    ensures { result ≡ tells (front c.now count) }
-{
-    tells(front(c, count))
-}
-
 // ---- the step of a row
-// Do the settings beside the card fit their types?
-#[tactic(auto, unfolding(calls::specs::InnerCalls::settings_narrow))]
-fn narrow(c: &CardCall) -> bool
-    ensures { result ≡ settings_narrow c.now.engine c.now.n c.now.unit c.now.row }
-{
-    (c.engine < 256) & (c.n < 256) & (c.unit < 256) & (c.row < 65536)
-}
-
 // The settings beside the card, with the row's number as the entry.
-#[tactic(auto, unfolding(calls::specs::Calls::bad_settings, calls::specs::InnerCalls::settings_narrow))]
-fn settings_of(c: &CardCall) -> SettingsRead
+fn settings_read(c: &CardCall) -> Option<Settings>
     ensures { result ≡ settings_read c.now }
 {
-    if !narrow(c) {
-        return SettingsRead::Bad;
-    }
-    let EngineRead::Is(engine) = codes::engine_of(c.engine as u8) else {
-        return SettingsRead::Bad;
-    };
-    let s = Settings {
-        engine,
-        n: c.n as u8,
-        unit: c.unit as u8,
-        entry: c.row as u16,
-    };
-    if rules::logs::settings_ok(s) {
-        SettingsRead::Are(s)
-    } else {
-        SettingsRead::Bad
-    }
+    numbers::settings_from(c.engine, c.n, c.unit, c.row)
 }
 
-// The log of a row, of these settings.
+// The log of a row, of these settings. Inlined, since the stack of key-on and of a proposal is else above what the header says.
 #[tactic(auto, unfolding(cards::specs::Calls::bad_row_log, cards::specs::Rows::row_log, cards::specs::Calls::other_row))]
-fn own_log(c: &CardCall, r: &CardRow) -> LogRead
+#[inline(always)]
+fn own_log(c: &CardCall, r: &CardRow) -> Result<Log, Refusal>
     ensures { result ≡ own_log today c.now r.now }
 {
-    let SettingsRead::Are(s) = settings_of(c) else {
-        return LogRead::Refused(Refusal::Log);
-    };
-    let LogRead::Read(l) = card_rows::read_log(&r.log) else {
-        return LogRead::Refused(Refusal::Log);
-    };
-    if rules::images::same_settings(l.settings, s) {
-        LogRead::Read(l)
+    let settings = settings_read(c).ok_or(Refusal::Log)?;
+    let l = card_rows::read_log(&r.log)?;
+    if rules::images::same_settings(l.settings, settings) {
+        Ok(l)
     } else {
-        LogRead::Refused(Refusal::Image)
+        Err(Refusal::Image)
     }
 }
 
@@ -164,57 +114,60 @@ fn own_log(c: &CardCall, r: &CardRow) -> LogRead
 fn answered(row: &mut CardRow, a: &Answer) -> Told
     ensures { row_answer row.new result ≡ row_answered row.old a.now }
 {
-    let refusal = a.refusal;
-    let message = a.message;
-    let decision = a.decision;
-    if tally::number(refusal) == 0 {
-        *row = card_rows::row_of(
-            a.unit.settings,
-            a.unit.logged,
-            a.unit.current,
-            &a.unit.checks,
-            &a.unit.seconds,
-        );
-        return Told {
-            refusal,
-            message,
-            decision,
-        };
+    if a.refusal.is_some() {
+        return tells(a.refusal);
     }
-    tells(refusal)
+    *row = card_rows::row_of(
+        a.unit.settings,
+        a.unit.logged,
+        a.unit.current,
+        &a.unit.checks,
+        &a.unit.seconds,
+    );
+    Told {
+        refusal: a.refusal,
+        message: a.message,
+        decision: a.decision,
+    }
 }
 
 #[tactic(auto, unfolding(cards::specs::InnerSteps::step_conditions, cards::specs::InnerSteps::unless_row, consensus::specs::Conditions::first_refusal))]
-fn start(c: &CardCall, r: &mut CardRow) -> Told
-    ensures { row_answer r.new result ≡ act_of today Act.Start c.now r.old }
+fn start(c: &CardCall, r: &mut CardRow) -> Result<(), Refusal>
+    ensures { row_answer r.new (tells (result_err result)) ≡ act_of today Act.Start c.now r.old }
 {
-    match settings_of(c) {
-        SettingsRead::Bad => tells(Refusal::Log),
-        SettingsRead::Are(s) => {
-            *r = card_rows::unmarked(Unit::fresh(s).log());
-            tells(Refusal::None)
-        }
-    }
+    let settings = settings_read(c).ok_or(Refusal::Log)?;
+    *r = card_rows::unmarked(Unit::fresh(settings).log());
+    Ok(())
 }
 
-fn key_on(c: &CardCall, r: &mut CardRow) -> Told
-    ensures { row_answer r.new result ≡ act_of today Act.KeyOn c.now r.old }
+#[tactic(auto, using(cards::proofs::Steps::key_on_step))]
+fn key_on(c: &CardCall, r: &mut CardRow) -> Result<(), Refusal>
+    ensures { row_answer r.new (tells (result_err result)) ≡ act_of today Act.KeyOn c.now r.old }
 {
-    match own_log(c, &*r) {
-        LogRead::Refused(k) => tells(k),
-        LogRead::Read(l) => {
-            *r = card_rows::unmarked(l);
-            tells(Refusal::None)
-        }
+    let l = own_log(c, &*r)?;
+    *r = card_rows::unmarked(l);
+    Ok(())
+}
+
+// The unit's method. Inline, so that the unit is not copied once more.
+#[tactic(auto, unfolding(cards::specs::InnerSteps::takes))]
+#[inline(always)]
+fn taken(u: Unit, s: UnitStep) -> Answer
+    ensures { result ≡ takes today s u }
+{
+    match s {
+        UnitStep::Propose(v) => u.propose(v),
+        UnitStep::Deliver(m) => u.deliver(m),
     }
 }
 
 // A step of the unit that a log and a row's image make.
+#[tactic(auto, using(cards::proofs::Steps::row_unfit, cards::proofs::Steps::row_fit))]
 fn with_log(l: Log, r: &mut CardRow, s: UnitStep) -> Told
     ensures { row_answer r.new result ≡ with_log today s l r.old }
 {
-    let StateRead::Fits(state) = card_rows::state_for(&*r, l) else {
-        return tells(Refusal::Image);
+    let Some(state) = card_rows::state_for(&*r, l) else {
+        return tells(Some(Refusal::Image));
     };
     let u = Unit::up(
         l,
@@ -222,19 +175,17 @@ fn with_log(l: Log, r: &mut CardRow, s: UnitStep) -> Told
         card_rows::tally_of(&r.checks),
         card_rows::tally_of(&r.seconds),
     );
-    match s {
-        UnitStep::Propose(v) => answered(r, &u.propose(v)),
-        UnitStep::Deliver(m) => answered(r, &u.deliver(m)),
-    }
+    answered(r, &taken(u, s))
 }
 
-// A step of the row's unit.
+// A step of the row's unit, whose own refusal stands in what is told.
+#[tactic(auto, using(cards::proofs::Steps::unit_step))]
 fn on_unit(c: &CardCall, r: &mut CardRow, s: UnitStep) -> Told
     ensures { row_answer r.new result ≡ act_of today (Act.Step s) c.now r.old }
 {
     match own_log(c, &*r) {
-        LogRead::Refused(k) => tells(k),
-        LogRead::Read(l) => with_log(l, r, s),
+        Err(why) => tells(Some(why)),
+        Ok(l) => with_log(l, r, s),
     }
 }
 
@@ -243,28 +194,27 @@ fn on_unit(c: &CardCall, r: &mut CardRow, s: UnitStep) -> Told
 fn step_row(c: &CardCall, r: &mut CardRow) -> Told
     ensures { row_answer r.new result ≡ step_of today c.now r.old }
 {
-    let act = c.act;
-    match act {
-        Act::WrongLength => tells(Refusal::Length),
-        Act::Malformed => tells(Refusal::Message),
-        Act::Start => start(c, r),
-        Act::KeyOn => key_on(c, r),
+    match c.act {
+        Act::WrongLength => tells(Some(Refusal::Length)),
+        Act::Malformed => tells(Some(Refusal::Message)),
+        Act::Start => tells(start(c, r).err()),
+        Act::KeyOn => tells(key_on(c, r).err()),
         Act::Step(s) => on_unit(c, r, s),
     }
 }
 
 // ---- on the card
 // The row is copied out, the step taken, and the row stored back.
-#[tactic(auto, unfolding(cards::specs::InnerSteps::card_told, cards::specs::InnerSteps::card_rows))]
 pub fn on_row(c: CardCall, rows: &mut [CardRow]) -> Told
     ensures { (result ≡ card_told today c rows.old) × (rows.new ≡ card_rows today c rows.old) }
 {
-    let k = place(&c, rows.len());
-    if rows.len() <= k {
-        return refused(&c, rows.len());
+    match place(&c, rows.len()) {
+        Err(why) => tells(Some(why)),
+        Ok(k) => {
+            let mut r = rows[k];
+            let told = step_row(&c, &mut r);
+            rows[k] = r;
+            told
+        }
     }
-    let mut r = rows[k];
-    let told = step_row(&c, &mut r);
-    rows[k] = r;
-    told
 }

@@ -1,4 +1,5 @@
 -- What the calls do on a card whose row holds a well-formed unit. Assumes nothing.
+use Rattle.std.specs.Prelude.{None}
 use Prim.Native.Nat.{ℕ, ◌-◌, ◌≤◌}
 use mathlib.Core.Path.{◌≡◌, refl, sym, ap, ap₂, subst, ◌∙◌}
 use mathlib.Core.Bool.{Bool, true, false}
@@ -122,7 +123,7 @@ pub record Does (l : Limits) (card : List CardRow) (k : ℕ) (x : Answer) (a : C
   pub decision : a.decision ≡ code_of x.decision
 
 -- where no condition holds, the unit's step is the answer
-unless_none : (cs : List Condition) (x : U.Unit) (a : Answer) → first_refusal cs ≡ Refusal.None → unless cs x a ≡ a
+unless_none : (cs : List Condition) (x : U.Unit) (a : Answer) → first_refusal cs ≡ None → unless cs x a ≡ a
 unfolding unless
 unless_none cs x a e = rw e
 
@@ -143,7 +144,7 @@ module _ (l : Limits) (sane : Sane l) where
 
   -- an answer of the unit that the row holds
   does : (card : List CardRow) (k : ℕ) (cs : List Condition) (out : List ℕ) (r : CardRow) (x : Answer) (a : CardAnswer)
-      → OnRow l cs card k r out a → a ≡ unless_card l cs card out (answered_card l card k x) → r ≡ row_of x.unit → x.refusal ≡ Refusal.None
+      → OnRow l cs card k r out a → a ≡ unless_card l cs card out (answered_card l card k x) → r ≡ row_of x.unit → x.refusal ≡ None
       → Names card k → eqb a.number 0 ≡ true → Does l card k x a
   does card k cs out r x a law q same none n acc =
       let e = answer_is law (answered_card l card k x) q acc in

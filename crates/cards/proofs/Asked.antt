@@ -1,4 +1,5 @@
 -- What the calls ask of a row, and what is told, is the call's definition. Assumes nothing.
+use Rattle.std.specs.Prelude.{Option, Some}
 use Prim.Native.Nat.{ℕ, ◌-◌, ◌<◌}
 use mathlib.Core.Path.{◌≡◌, refl, sym, ap, ◌∙◌}
 use mathlib.Core.Bool.{Bool, true, false, cond, ◌||◌, or-true, or-false}
@@ -28,8 +29,8 @@ use Rattle.calls.specs.Calls.{wrong_length, bad_message, message_bytes}
 use Rattle.calls.proofs.Entries.{message_ok_lem}
 use Rattle.cards.specs.Calls.{CardAnswer, card_called, unless_card, answered_card, wrong_count, row_at, beside, card_start_conditions, card_start_call}
 use Rattle.cards.specs.Calls.{card_key_on_conditions, card_key_on_call, card_propose_conditions, card_propose_call, card_deliver_conditions, card_deliver_call}
-use Rattle.cards.specs.InnerSteps.{step_conditions, unit_conditions, unit_answer, step_answer, tells, told, row_answer, unless_row, step_of}
-use Rattle.cards.specs.InnerSteps.{front_conditions, front, card_told, card_rows, card_call, propose_asks, deliver_asks, put_message, told_card}
+use Rattle.cards.specs.InnerSteps.{step_conditions, unit_conditions, unit_answer, step_answer, tells, told, row_answer, unless_row, step_of, front_conditions}
+use Rattle.cards.specs.InnerSteps.{front, card_told, card_rows, card_call, propose_asks, deliver_asks, put_message, told_card}
 use Rattle.cards.specs.Rows.{row_unit, row_of, no_row}
 use Rattle.cards.specs.declared.Act.{Act}
 use Rattle.cards.specs.declared.CardCall.{CardCall}
@@ -47,8 +48,8 @@ first_append [] ys h = refl
 first_append (x ∷ xs) ys h = go x.holds (first_append xs ys h.1)
   where
     go : (b : Bool) → first_refusal (xs ++ ys) ≡ cond (eqb (number_of (first_refusal xs)) 0) (first_refusal ys) (first_refusal xs)
-        → cond b x.refusal (first_refusal (xs ++ ys))
-        ≡ cond (eqb (number_of (cond b x.refusal (first_refusal xs))) 0) (first_refusal ys) (cond b x.refusal (first_refusal xs))
+        → cond b (Some x.refusal) (first_refusal (xs ++ ys))
+        ≡ cond (eqb (number_of (cond b (Some x.refusal) (first_refusal xs))) 0) (first_refusal ys) (cond b (Some x.refusal) (first_refusal xs))
     go true rest = rw (ne_eqb _ _ h.0)
     go false rest = rest
 
@@ -104,7 +105,7 @@ module _ (c : CardCall) (rows : List CardRow) (out : List ℕ) where
       let below : c.row - 1 < length rows = omega (arith, k.0, k.1) in
       rw (p, lt-leb (length rows) (c.row - 1) below, first_is, z) (by (eqb (number_of (first_refusal (step_conditions today c.act c r))) 0))
     where
-      k : Refusal
+      k : Option Refusal
       k = first_refusal (step_conditions today c.act c r)
 
       by : (t : Bool)
@@ -187,7 +188,7 @@ module _ (engine n unit : ℕ) (rows : List CardRow) (out : List ℕ) where
   said c = told_card today (card_rows today c rows) out (card_told today c rows)
 
   -- a wrong length is refused first
-  short : (k : ℕ) (cs : List Condition) (ok : CardAnswer) → first_refusal cs ≡ Refusal.Length
+  short : (k : ℕ) (cs : List Condition) (ok : CardAnswer) → first_refusal cs ≡ Some Refusal.Length
       → said (card_call engine n unit k Act.WrongLength) ≡ unless_card today cs rows out ok
   unfolding front_conditions first_refusal
   short k cs ok e =
@@ -244,7 +245,7 @@ module _ (engine n unit : ℕ) (rows : List CardRow) (out : List ℕ) where
         cond x (card_call engine n unit 0 Act.WrongLength)
         (cond y (card_call engine n unit 0 Act.Malformed) (card_call engine n unit m.entry (Act.Step (UnitStep.Deliver m))))
 
-    refuses : (w : Bool) → number_of (cond w Refusal.Length Refusal.Message) ≡ 0 → ⊥
+    refuses : (w : Bool) → number_of (cond w (Some Refusal.Length) (Some Refusal.Message)) ≡ 0 → ⊥
     refuses true z = omega (arith, z)
     refuses false z = omega (arith, z)
 

@@ -1,4 +1,5 @@
 -- The laws of the four calls on a card, over their own definitions. Assumes nothing.
+use Rattle.std.specs.Prelude.{Some}
 use Prim.Native.Nat.{ℕ, zero, suc, ◌-◌, ◌≤◌}
 use mathlib.Core.Path.{◌≡◌, refl, sym, ap, ◌∙◌}
 use mathlib.Core.Bool.{Bool, true, false, cond, ◌||◌}
@@ -43,7 +44,7 @@ unfolding first_refusal
 none_holds [] h e = tt
 none_holds (r ∷ rs) h e = go r.holds refl e (none_holds rs h.1)
   where
-    go : (b : Bool) → r.holds ≡ b → number_of (cond b r.refusal (first_refusal rs)) ≡ 0 → (number_of (first_refusal rs) ≡ 0 → NoneHolds rs)
+    go : (b : Bool) → r.holds ≡ b → number_of (cond b (Some r.refusal) (first_refusal rs)) ≡ 0 → (number_of (first_refusal rs) ≡ 0 → NoneHolds rs)
         → (r.holds ≡ false) × NoneHolds rs
     go true q z f = absurd (h.0 z)
     go false q z f = (q, f z)

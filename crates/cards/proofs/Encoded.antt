@@ -1,4 +1,5 @@
 -- On the row of a well-formed unit the calls on a card answer what the unit's method does, accepted or refused. Assumes nothing.
+use Rattle.std.specs.Prelude.{Option, None}
 use Prim.Native.Nat.{ℕ, ◌-◌}
 use mathlib.Core.Path.{◌≡◌, refl, sym, ap, ◌∙◌}
 use mathlib.Core.Bool.{Bool, true, false, cond}
@@ -77,13 +78,13 @@ module _ (l : Limits) (sane : Sane l) (u : U.Unit) (w : WellFormed l u) (rows : 
     same_rows : rows ≡ set rows (k - 1) (row_of u)
     same_rows = sym (set-get_or rows (k - 1) no_row) ∙ ap (set rows (k - 1)) there
 
-    same_answer : (cs late : List Condition) (a : Answer) (out : List ℕ) → first_refusal cs ≡ first_refusal late → a.refusal ≡ Refusal.None
+    same_answer : (cs late : List Condition) (a : Answer) (out : List ℕ) → first_refusal cs ≡ first_refusal late → a.refusal ≡ None
         → length out ≡ message_size l → unless_card l cs rows out (answered_card l rows k a) ≡ on_card (unless late u a)
     unfolding unless message_bytes cleared
     same_answer cs late a out same none size =
         rw (same, eq-eqb (length out) (message_size l) size) (go (first_refusal late) (eqb (number_of (first_refusal late)) 0))
       where
-        go : (r : Refusal) (t : Bool)
+        go : (r : Option Refusal) (t : Bool)
             → cond t (answered_card l rows k a) (card_called (number_of r) rows (empty_bytes l) blank_code) ≡ on_card (cond t a (refuses u r))
         go r true = ap (λ z. card_called (number_of z) (on_card a).rows (on_card a).out (on_card a).decision) (sym none)
         go r false = ap (λ z. card_called (number_of r) z (empty_bytes l) blank_code) same_rows

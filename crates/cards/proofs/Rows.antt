@@ -1,9 +1,9 @@
 -- Rows and contents, both ways: a unit's row is read back as that unit, and a row that is read is written back to the last number. Assumes nothing.
+use Rattle.std.specs.Prelude.{Option, Some, None}
 use Prim.Native.Nat.{ℕ}
 use mathlib.Core.Path.{◌≡◌, refl, sym, ap, ap₂, ◌∙◌}
 use mathlib.Core.Bool.{Bool, true, false, cond, ◌&&◌}
 use mathlib.Core.List.{List, ◌∷◌}
-use mathlib.Core.Option.{none, some}
 use native.Mathlib.Omega.{arith}
 use lib.ListN.{get_or, drop}
 use borrow.Author.Tests.{lt-ltb}
@@ -23,8 +23,6 @@ use Rattle.formats.specs.Codes.{engine_of, with_engine}
 use Rattle.formats.specs.Formats.{reading, checked}
 use Rattle.formats.specs.Images.{with_tallies, image_format}
 use Rattle.formats.specs.Logs.{log_of, log_format}
-use Rattle.formats.specs.declared.EngineRead.{EngineRead}
-use Rattle.formats.specs.declared.EngineRead.TheVariants.{Is, Unknown}
 use Rattle.formats.proofs.ImageFormat.{numbers_tally, known_cells, tally_back}
 use Rattle.formats.proofs.Letters.{engine_letter}
 use Rattle.formats.proofs.LogFormat.{numbers_of_lem, of_numbers, lawful}
@@ -52,10 +50,10 @@ row_back l sane x wf =
     ap (λ (r : Log). with_tallies r (row_tally (tally_fields_of x.checks)) (row_tally (tally_fields_of x.seconds)))
     (of_numbers l sane (image_log i) f.log)
     ∙ ap₂ (λ (y z : Tally). with_tallies (image_log i) y z) c s in
-    let read : checked (image_format l) (some i) ≡ reading 0 i = rw wf.image in (
+    let read : checked (image_format l) (Some i) ≡ reading 0 i = rw wf.image in (
       from_numbers_lem (log_format l) (λ r. Unit) (lawful l sane) (unit_log x) tt wf.log,
       rw (lt-ltb _ _ wf.checks.marks, lt-ltb _ _ wf.seconds.marks, engine_letter g)
-          (ap (λ (z : Image). checked (image_format l) (some z)) same ∙ read),
+          (ap (λ (z : Image). checked (image_format l) (Some z)) same ∙ read),
     )
 
 -- ---- from a row to its unit and back
@@ -75,7 +73,7 @@ fields_from vs =
     }
 
 -- a log made of fields has these fields
-fields_back : (f : LogFields) (e : Engine) → engine_of f.engine ≡ Is e → log_fields_of (log_of e (numbers_of f)) ≡ f
+fields_back : (f : LogFields) (e : Engine) → engine_of f.engine ≡ Some e → log_fields_of (log_of e (numbers_of f)) ≡ f
 fields_back f e p = ap fields_from (numbers_of_lem e (numbers_of f) refl p)
 
 abbrev tally_fields_from : List ℕ → TallyFields
@@ -89,13 +87,13 @@ module _ (l : Limits) (r : CardRow) where
   unfolding row_log
   log_forth z = go (engine_of r.log.engine) refl z
     where
-      go : (o : EngineRead) → engine_of r.log.engine ≡ o → (checked (log_format l) (with_engine log_of o (numbers_of r.log))).number ≡ 0
+      go : (o : Option Engine) → engine_of r.log.engine ≡ o → (checked (log_format l) (with_engine log_of o (numbers_of r.log))).number ≡ 0
           → log_fields_of (checked (log_format l) (with_engine log_of o (numbers_of r.log))).contents ≡ r.log
-      go Unknown p z = absurd (omega (arith, z))
-      go (Is e) p z = by (log_ok l (log_of e (numbers_of r.log))) refl z
+      go None p z = absurd (omega (arith, z))
+      go (Some e) p z = by (log_ok l (log_of e (numbers_of r.log))) refl z
         where
-          by : (b : Bool) → log_ok l (log_of e (numbers_of r.log)) ≡ b → (checked (log_format l) (some (log_of e (numbers_of r.log)))).number ≡ 0
-              → log_fields_of (checked (log_format l) (some (log_of e (numbers_of r.log)))).contents ≡ r.log
+          by : (b : Bool) → log_ok l (log_of e (numbers_of r.log)) ≡ b → (checked (log_format l) (Some (log_of e (numbers_of r.log)))).number ≡ 0
+              → log_fields_of (checked (log_format l) (Some (log_of e (numbers_of r.log)))).contents ≡ r.log
           by true ok z = rw ok (fields_back r.log e p)
           by false ok z = absurd (omega (arith, rw ok at z))
 
@@ -111,17 +109,17 @@ module _ (l : Limits) (r : CardRow) where
   unfolding row_image
   image_forth z = go (marks_fit r.checks) (marks_fit r.seconds) (engine_of r.image.engine) refl refl refl z
     where
-      go : (b d : Bool) (o : EngineRead) → marks_fit r.checks ≡ b → marks_fit r.seconds ≡ d → engine_of r.image.engine ≡ o
-          → (checked (image_format l) (cond (b && d) (with_engine (image_with r) o (numbers_of r.image)) none)).number ≡ 0
-          → OfRow (checked (image_format l) (cond (b && d) (with_engine (image_with r) o (numbers_of r.image)) none)).contents
+      go : (b d : Bool) (o : Option Engine) → marks_fit r.checks ≡ b → marks_fit r.seconds ≡ d → engine_of r.image.engine ≡ o
+          → (checked (image_format l) (cond (b && d) (with_engine (image_with r) o (numbers_of r.image)) None)).number ≡ 0
+          → OfRow (checked (image_format l) (cond (b && d) (with_engine (image_with r) o (numbers_of r.image)) None)).contents
       go false d o f h p z = absurd (omega (arith, z))
       go true false o f h p z = absurd (omega (arith, z))
-      go true true Unknown f h p z = absurd (omega (arith, z))
-      go true true (Is e) f h p z = by (image_ok l (image_with r e (numbers_of r.image))) refl z
+      go true true None f h p z = absurd (omega (arith, z))
+      go true true (Some e) f h p z = by (image_ok l (image_with r e (numbers_of r.image))) refl z
         where
           by : (b : Bool) → image_ok l (image_with r e (numbers_of r.image)) ≡ b
-              → (checked (image_format l) (some (image_with r e (numbers_of r.image)))).number ≡ 0
-              → OfRow (checked (image_format l) (some (image_with r e (numbers_of r.image)))).contents
+              → (checked (image_format l) (Some (image_with r e (numbers_of r.image)))).number ≡ 0
+              → OfRow (checked (image_format l) (Some (image_with r e (numbers_of r.image)))).contents
           by true ok z = rw ok (record { image = fields_back r.image e p; checks_fit = f; seconds_fit = h; checks = refl; seconds = refl })
           by false ok z = absurd (omega (arith, rw ok at z))
 

@@ -1,6 +1,7 @@
 -- What inner functions of card_rows and card_calls promise, of which no public call's contract speaks: a call as a value, which row it is of,
 -- and the step of that row. Assumes nothing.
-use Rattle.std.specs.Prelude.{ℕ, ◌-◌, Bool, true, false, not, cond, ◌&&◌, ◌||◌, List, [], ◌∷◌, eqb, leb, length, get_or, set}
+use Rattle.std.specs.Prelude.{ℕ, ◌-◌, Bool, true, false, not, cond, ◌&&◌, ◌||◌, List, [], ◌∷◌, eqb, leb, length, get_or, set, Option, Some}
+use Rattle.std.specs.Prelude.{None, Result, Ok, Err}
 use Rattle.tally.specs.Limits.{Limits, message_size}
 use Rattle.tally.specs.Refusal.{number_of}
 use Rattle.tally.specs.Tally.{no_marks}
@@ -16,7 +17,6 @@ use Rattle.formats.specs.Formats.{ReadAnswer}
 use Rattle.formats.specs.Images.{with_tallies}
 use Rattle.formats.specs.InnerFormats.{stored}
 use Rattle.formats.specs.Messages.{message_format, read_message, cleared}
-use Rattle.formats.specs.declared.LogRead.{LogRead}
 use Rattle.consensus.specs.Conditions.{Condition, condition, first_refusal}
 use Rattle.consensus.specs.Methods.{propose_conditions, propose, deliver_conditions, deliver}
 use Rattle.consensus.specs.Step.{quiet, fresh, recovered, proposed, received}
@@ -24,37 +24,37 @@ use Rattle.consensus.specs.Units.{up_unit, down_unit}
 use Rattle.consensus.specs.declared.Answer.{Answer}
 use Rattle.consensus.specs.declared.Unit as U
 use Rattle.calls.specs.Calls.{wrong_length, bad_message}
-use Rattle.cards.specs.Calls.{CardAnswer, card_called, Beside, beside, wrong_count, names_no_row}
-use Rattle.cards.specs.Calls.{bad_beside, settings_of_row, bad_row_log, other_row, bad_row_image}
+use Rattle.cards.specs.Calls.{CardAnswer, card_called, Beside, beside, wrong_count, names_no_row, bad_beside, settings_of_row, bad_row_log, other_row}
+use Rattle.cards.specs.Calls.{bad_row_image}
 use Rattle.cards.specs.Rows.{marks_fit, row_tally, log_fields_of, tally_fields_of, row_log, row_image, row_unit, row_of, no_row}
 use Rattle.cards.specs.declared.Act.{Act}
 use Rattle.cards.specs.declared.Act.TheVariants.{WrongLength, Malformed, Start, KeyOn, Step}
 use Rattle.cards.specs.declared.CardCall.{CardCall}
 use Rattle.cards.specs.declared.CardRow.{CardRow}
 use Rattle.cards.specs.declared.RowAnswer.{RowAnswer}
-use Rattle.cards.specs.declared.SettingsRead.{SettingsRead}
 use Rattle.cards.specs.declared.Told.{Told}
 use Rattle.cards.specs.declared.UnitStep.{UnitStep}
 use Rattle.cards.specs.declared.UnitStep.TheVariants.{Propose, Deliver}
+use Rattle.contents.specs.declared.Settings.{Settings}
 
 -- ---- what is read
 
 -- the code's answer
-abbrev pub log_read_of : ReadAnswer Log → LogRead
-log_read_of x = cond (eqb x.number 0) (LogRead.Read x.contents) (LogRead.Refused Refusal.Log)
+abbrev pub log_read_of : ReadAnswer Log → Result Log Refusal
+log_read_of x = cond (eqb x.number 0) (Ok x.contents) (Err Refusal.Log)
 
 abbrev pub beside_of : CardCall → Beside
 beside_of c = beside c.engine c.n c.unit
 
 -- the settings beside the card, with the row's number as the entry, where they are in range
-abbrev pub settings_read : CardCall → SettingsRead
-settings_read c = cond (bad_beside (beside_of c) c.row) SettingsRead.Bad (SettingsRead.Are (settings_of_row (beside_of c) c.row))
+abbrev pub settings_read : CardCall → Option Settings
+settings_read c = cond (bad_beside (beside_of c) c.row) None (Some (settings_of_row (beside_of c) c.row))
 
 -- the row's log, of these settings
-abbrev pub own_log : Limits → CardCall → CardRow → LogRead
+abbrev pub own_log : Limits → CardCall → CardRow → Result Log Refusal
 own_log l c r =
-    cond (bad_beside (beside_of c) c.row || bad_row_log l r) (LogRead.Refused Refusal.Log)
-    (cond (other_row l (settings_of_row (beside_of c) c.row) r) (LogRead.Refused Refusal.Image) (LogRead.Read (row_log l r).contents))
+    cond (bad_beside (beside_of c) c.row || bad_row_log l r) (Err Refusal.Log)
+    (cond (other_row l (settings_of_row (beside_of c) c.row) r) (Err Refusal.Image) (Ok (row_log l r).contents))
 
 -- a row at its log's contents, without marks
 abbrev pub unmarked_row : Log → CardRow
@@ -109,7 +109,7 @@ step_answer l KeyOn c r = quiet (recovered (down_unit (row_log l r).contents))
 step_answer l (Step s) c r = unit_answer s (row_unit l r)
 
 -- a refusal: an empty message and no decision
-abbrev pub tells : Refusal → Told
+abbrev pub tells : Option Refusal → Told
 tells k = record { refusal = k; message = empty_message; decision = Blank }
 
 abbrev pub told : Answer → Told
@@ -134,7 +134,7 @@ act_of l act c r = unless_row (step_conditions l act c r) r (step_answer l act c
 abbrev pub with_log : Limits → UnitStep → Log → CardRow → RowAnswer
 with_log l s g r =
     cond (eqb (row_image l r).number 0 && fits (row_image l r).contents g) (row_answered r (takes l s (up_unit g (row_image l r).contents)))
-    (row_answer r (tells Refusal.Image))
+    (row_answer r (tells (Some Refusal.Image)))
 
 unfoldable pub step_of : Limits → CardCall → CardRow → RowAnswer
 step_of l c r = act_of l c.act c r
@@ -165,7 +165,7 @@ front_conditions c count =
     ∷ condition Refusal.Row (names_no_row count c.row)
     ∷ []
 
-unfoldable pub front : CardCall → ℕ → Refusal
+unfoldable pub front : CardCall → ℕ → Option Refusal
 front c count = first_refusal (front_conditions c count)
 
 -- where the row stands, or past the end where there is none

@@ -1,6 +1,5 @@
 -- A card's row as numbers: what its log and image hold. Assumes nothing.
-use Rattle.std.specs.Prelude.{ℕ, ◌^◌, Bool, cond, ◌&&◌, List, [], ◌∷◌, map, ltb, replicate}
-use Rattle.std.proofs.Math.Option.{none}
+use Rattle.std.specs.Prelude.{ℕ, ◌^◌, Bool, cond, ◌&&◌, List, [], ◌∷◌, map, ltb, replicate, None}
 use Rattle.tally.specs.Limits.{Limits, senders}
 use Rattle.tally.specs.declared.Engine.{Engine}
 use Rattle.tally.specs.declared.Tally.{Tally}
@@ -41,7 +40,7 @@ image_with r e vs = with_tallies (log_of e vs) (row_tally r.checks) (row_tally r
 unfoldable pub row_image : Limits → CardRow → ReadAnswer Image
 row_image l r =
     checked (image_format l)
-    (cond (marks_fit r.checks && marks_fit r.seconds) (with_engine (image_with r) (engine_of r.image.engine) (numbers_of r.image)) none)
+    (cond (marks_fit r.checks && marks_fit r.seconds) (with_engine (image_with r) (engine_of r.image.engine) (numbers_of r.image)) None)
 
 -- the up unit of a row
 abbrev pub row_unit : Limits → CardRow → U.Unit

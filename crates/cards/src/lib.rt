@@ -2,12 +2,12 @@
 // card_calls have the code.
 #![tactic(auto)]
 
-use contents::{Message, Settings};
+use contents::Message;
 use tally::{Estimate, Refusal, limits};
 
 // A log's eight numbers; the engine is its letter's number.
 #[repr(C)]
-#[derive(Clone, Copy)]
+#[derive(Clone, Copy, PartialEq, Eq)]
 pub struct LogFields {
     pub engine: u32,
     pub n: u32,
@@ -21,7 +21,7 @@ pub struct LogFields {
 
 // A tally's seventeen numbers: its marks, and sixteen estimates.
 #[repr(C)]
-#[derive(Clone, Copy)]
+#[derive(Clone, Copy, PartialEq, Eq)]
 pub struct TallyFields {
     pub marks: u32,
     pub estimates: [u32; limits::SENDERS],
@@ -29,7 +29,7 @@ pub struct TallyFields {
 
 // A row of a card holds the log and image contents of its entry: fifty numbers.
 #[repr(C)]
-#[derive(Clone, Copy)]
+#[derive(Clone, Copy, PartialEq, Eq)]
 pub struct CardRow {
     pub log: LogFields,
     pub image: LogFields,
@@ -38,14 +38,15 @@ pub struct CardRow {
 }
 
 // What a call asks of its row's unit.
-#[derive(Clone, Copy)]
+#[derive(Clone, Copy, PartialEq, Eq)]
 pub enum UnitStep {
     Propose(u32),
     Deliver(Message),
 }
 
-// What a call asks of its row, or what its buffers were refused for.
-#[derive(Clone, Copy)]
+// What a call asks of its row, or what its buffers were refused for: these are cases and no errors, since 1, 4 and 12 are told in an order of their own
+// once the rows are there. One match on these few cases says as much as a closure for each.
+#[derive(Clone, Copy, PartialEq, Eq)]
 pub enum Act {
     WrongLength,
     Malformed,
@@ -54,8 +55,8 @@ pub enum Act {
     Step(UnitStep),
 }
 
-// A call on a card: the settings beside it, the row's number from 1, and what is asked.
-#[derive(Clone, Copy)]
+// A call on a card: the settings beside it, the row's number from 1, and what is asked. Numbers of 32 bits, as they are given: settings once in range.
+#[derive(Clone, Copy, PartialEq, Eq)]
 pub struct CardCall {
     pub engine: u32,
     pub n: u32,
@@ -64,24 +65,18 @@ pub struct CardCall {
     pub act: Act,
 }
 
-// What a call tells its caller.
-#[derive(Clone, Copy)]
+// What a call tells its caller, of a refused call too: an empty message and no decision. So the refusal stands beside these. It is
+// an answer but for the unit, which went into the row.
+#[derive(Clone, Copy, PartialEq, Eq)]
 pub struct Told {
-    pub refusal: Refusal,
+    pub refusal: Option<Refusal>,
     pub message: Message,
     pub decision: Estimate,
 }
 
 // What a row answers: itself after the step, and what is told. Contracts alone speak of it.
-#[derive(Clone, Copy)]
+#[derive(Clone, Copy, PartialEq, Eq)]
 pub struct RowAnswer {
     pub row: CardRow,
     pub told: Told,
-}
-
-// The settings beside a card, where they are in range.
-#[derive(Clone, Copy)]
-pub enum SettingsRead {
-    Are(Settings),
-    Bad,
 }

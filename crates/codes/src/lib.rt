@@ -1,14 +1,16 @@
-// Letters and estimates as numbers; and numbers of 8, 16 and a round's bits as a caller sees them, 32 bits each.
+// Letters and estimates as numbers. These are functions and no `From` of the types: which number stands for a kind or an estimate is the formats'
+// matter, of which the crates of the types know nothing; and a letter that stands for nothing is no error yet, a caller says which refusal it is.
 #![tactic(auto)]
 
-ghost use Rattle.std.specs.Prelude.{◌≡◌, ◌^◌, ltb};
+ghost use Rattle.std.specs.Prelude.{◌≡◌, ◌^◌, ltb, Some};
 ghost use Rattle.tally.specs.Limits.{today};
+ghost use Rattle.formats.specs.Formats.{checked};
+ghost use Rattle.formats.specs.Logs.{log_format, log_reading};
+ghost use Rattle.formats.specs.Messages.{message_format, message_reading};
 ghost use Rattle.formats.specs.Codes.{letter_of, engine_of, kind_letter, kind_of, code_of, estimate_of};
 
-use contents::Kind;
-use formats::{EngineRead, KindRead};
-use tally::limits::Round;
-use tally::{Engine, Estimate, limits};
+use contents::{Kind, Log, Message};
+use tally::{Engine, Estimate, Refusal, limits};
 
 pub fn letter_of(e: Engine) -> u8
     ensures { result ≡ letter_of e }
@@ -19,13 +21,13 @@ pub fn letter_of(e: Engine) -> u8
     }
 }
 
-pub fn engine_of(b: u8) -> EngineRead
+pub fn engine_of(b: u8) -> Option<Engine>
     ensures { result ≡ engine_of b }
 {
     match b {
-        b'B' => EngineRead::Is(Engine::B),
-        b'R' => EngineRead::Is(Engine::R),
-        _ => EngineRead::Unknown,
+        b'B' => Some(Engine::B),
+        b'R' => Some(Engine::R),
+        _ => None,
     }
 }
 
@@ -41,15 +43,15 @@ pub fn kind_letter(k: Kind) -> u8
     }
 }
 
-pub fn kind_of(b: u8) -> KindRead
+pub fn kind_of(b: u8) -> Option<Kind>
     ensures { result ≡ kind_of b }
 {
     match b {
-        b'F' => KindRead::Is(Kind::First),
-        b'C' => KindRead::Is(Kind::Check),
-        b'S' => KindRead::Is(Kind::Second),
-        b'K' => KindRead::Is(Kind::Skip),
-        _ => KindRead::Unknown,
+        b'F' => Some(Kind::First),
+        b'C' => Some(Kind::Check),
+        b'S' => Some(Kind::Second),
+        b'K' => Some(Kind::Skip),
+        _ => None,
     }
 }
 
@@ -81,21 +83,24 @@ pub fn round_narrow(x: u32) -> bool
     x < 65536
 }
 
-// A round as a number.
-pub fn wide_round(x: Round) -> u32
-    ensures { result ≡ x }
+// A log that was read, where it is well formed. With the message's alike, and no generic: test, refusal and format are all that is in them.
+pub fn checked_log(log: Log) -> Result<Log, Refusal>
+    ensures { log_reading result ≡ checked (log_format today) (Some log) }
 {
-    x as u32
+    if rules::logs::well_formed(log) {
+        Ok(log)
+    } else {
+        Err(Refusal::Log)
+    }
 }
 
-pub fn wide8(x: u8) -> u32
-    ensures { result ≡ x }
+// A message that was read, where it is well formed.
+pub fn checked_message(m: Message) -> Result<Message, Refusal>
+    ensures { message_reading result ≡ checked (message_format today) (Some m) }
 {
-    x as u32
-}
-
-pub fn wide16(x: u16) -> u32
-    ensures { result ≡ x }
-{
-    x as u32
+    if rules::messages::well_formed(m) {
+        Ok(m)
+    } else {
+        Err(Refusal::Message)
+    }
 }

@@ -1,13 +1,13 @@
 -- What every answer of a step has: no refusal, and the unit's power; a proposal writes no log, decides nothing, and leaves an image's marks. Assumes nothing.
+use Rattle.std.specs.Prelude.{None}
 use Prim.Native.Nat.{ℕ}
 use mathlib.Core.Path.{◌≡◌, refl}
 use Rattle.tally.specs.Limits.{Limits}
 use Rattle.tally.specs.declared.Estimate.TheVariants.{Blank}
-use Rattle.tally.specs.declared.Refusal.{Refusal}
 use Rattle.contents.specs.declared.Message.{Message}
 use Rattle.consensus.specs.Methods.{propose_conditions, propose, deliver_conditions, deliver}
-use Rattle.consensus.specs.Step.{with_current, log_write, at_round, send_first, proposed, take_first, take_second, checks_with, close, seconds_with}
-use Rattle.consensus.specs.Step.{on_kind, skip, received}
+use Rattle.consensus.specs.Step.{with_current, log_write, at_round, send_first, proposed, take_first, take_second, checks_with, close, seconds_with, on_kind}
+use Rattle.consensus.specs.Step.{skip, received}
 use Rattle.consensus.specs.Units.{unit_log, unit_image}
 use Rattle.consensus.specs.declared.Answer.{Answer}
 use Rattle.consensus.specs.declared.Unit as U
@@ -15,7 +15,7 @@ use Rattle.consensus.proofs.Branches.{by_round, by_kind, by_check, by_second, by
 
 -- an answer of the unit u that refuses nothing
 pub record Plain (u : U.Unit) (a : Answer) : Type 0 where
-  pub none : a.refusal ≡ Refusal.None
+  pub none : a.refusal ≡ None
   pub power : a.unit.power ≡ u.power
 
 pub plain_received : (u : U.Unit) (m : Message) → Plain u (received u m)

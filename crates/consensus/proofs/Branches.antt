@@ -1,4 +1,5 @@
 -- What holds of each branch's answer holds of the step's. Assumes nothing.
+use Rattle.std.specs.Prelude.{Option, Some}
 use Prim.Native.Nat.{◌≤◌, ◌<◌}
 use mathlib.Core.Path.{◌≡◌, refl}
 use mathlib.Core.Bool.{Bool, true, false, cond, not, ◌&&◌}
@@ -19,8 +20,8 @@ use Rattle.contents.specs.declared.Message.{Message}
 use Rattle.contents.proofs.Tests.{both_true}
 use Rattle.consensus.specs.Methods.{refuses, unless}
 use Rattle.consensus.specs.Conditions.{Condition, condition_number, first_refusal, NoneHolds}
-use Rattle.consensus.specs.Step.{quiet, with_checks, with_seconds, take_first, on_first, is_full, take_second, count_check, checks_with, on_check}
-use Rattle.consensus.specs.Step.{at_round, close, count_second, seconds_with, on_second, on_kind, skip, caught_up, received}
+use Rattle.consensus.specs.Step.{quiet, with_checks, with_seconds, take_first, on_first, is_full, take_second, count_check, checks_with, on_check, at_round}
+use Rattle.consensus.specs.Step.{close, count_second, seconds_with, on_second, on_kind, skip, caught_up, received}
 use Rattle.consensus.specs.declared.Answer.{Answer}
 use Rattle.consensus.specs.declared.Unit as U
 
@@ -71,19 +72,19 @@ module _ (P : Answer → Type 0) where
       go le false e = at (omega (arith, ltb-false u.current.round m.round e))
 
   -- a method answers, or refuses
-  pub by_unless : (cs : List Condition) (u : U.Unit) (a : Answer) → P a → ((k : Refusal) → P (refuses u k)) → P (unless cs u a)
+  pub by_unless : (cs : List Condition) (u : U.Unit) (a : Answer) → P a → ((k : Option Refusal) → P (refuses u k)) → P (unless cs u a)
   unfolding unless
   by_unless cs u a answered refused = by_test (eqb (number_of (first_refusal cs)) 0) (λ e. answered) (λ e. refused (first_refusal cs))
 
   -- conditions whose number is not 0, of which one refuses or none holds
   pub by_conditions : (cs : List Condition) (u : U.Unit) (a : Answer) → Each (λ r. eqb (condition_number r) 0 ≡ false) cs
-      → ((k : Refusal) → P (refuses u k))
+      → ((k : Option Refusal) → P (refuses u k))
       → (NoneHolds cs → P a) → P (unless cs u a)
   unfolding unless first_refusal
   by_conditions [] u a each refused accepted = accepted tt
   by_conditions (r ∷ rs) u a each refused accepted = go r.holds refl (by_conditions rs u a each.1 refused)
     where
       go : (b : Bool) → r.holds ≡ b → ((NoneHolds rs → P a) → P (unless rs u a))
-          → P (cond (eqb (number_of (cond b r.refusal (first_refusal rs))) 0) a (refuses u (cond b r.refusal (first_refusal rs))))
-      go true e ih = rw each.0 (refused r.refusal)
+          → P (cond (eqb (number_of (cond b (Some r.refusal) (first_refusal rs))) 0) a (refuses u (cond b (Some r.refusal) (first_refusal rs))))
+      go true e ih = rw each.0 (refused (Some r.refusal))
       go false e ih = ih (λ h. accepted (e, h))

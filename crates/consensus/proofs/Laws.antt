@@ -1,4 +1,5 @@
 -- The step branch by branch: under plain premises every field of the unit, of the message and of the decision. Assumes nothing.
+use Rattle.std.specs.Prelude.{Some, None}
 use Prim.Native.Nat.{ℕ, ◌+◌, ◌/◌, ◌≤◌, ◌<◌}
 use mathlib.Core.Path.{◌≡◌, refl}
 use mathlib.Core.Bool.{true, false, and-false}
@@ -24,8 +25,8 @@ use Rattle.contents.specs.declared.State.{State}
 use Rattle.consensus.specs.Methods.{refuses, unless, propose, propose_conditions, deliver, deliver_conditions, key_off, key_on}
 use Rattle.consensus.specs.Conditions.{Condition, first_refusal, NoneHolds}
 use Rattle.consensus.specs.Step.{says, log_write, at_round, send_first, proposed, take_first, on_first, is_full, take_second, count_check, checks_with}
-use Rattle.consensus.specs.Step.{on_check, decided, next_proposal, close, count_second, seconds_with, on_second}
-use Rattle.consensus.specs.Step.{on_kind, skip, caught_up, received, fresh, recovered}
+use Rattle.consensus.specs.Step.{on_check, decided, next_proposal, close, count_second, seconds_with, on_second, on_kind, skip, caught_up, received, fresh}
+use Rattle.consensus.specs.Step.{recovered}
 use Rattle.consensus.specs.Units.{down_unit, at_log}
 use Rattle.consensus.specs.declared.Answer.{Answer}
 use Rattle.consensus.specs.declared.Power.{Power}
@@ -58,7 +59,7 @@ abbrev pub nothing : Message
 nothing = record { kind = Empty; engine = B; n = 0; sender = 0; receiver = 0; entry = 0; round = 0; estimate = Blank; proposal = Blank }
 
 abbrev pub answer : U.Unit → Message → Estimate → Answer
-answer u m d = record { refusal = Refusal.None; unit = u; message = m; decision = d }
+answer u m d = record { refusal = None; unit = u; message = m; decision = d }
 
 -- ---- a message of the unit's own round
 
@@ -189,7 +190,7 @@ decided_split = refl
 
 -- ---- the methods
 
-none_first : (cs : List Condition) → NoneHolds cs → first_refusal cs ≡ Refusal.None
+none_first : (cs : List Condition) → NoneHolds cs → first_refusal cs ≡ None
 unfolding first_refusal
 none_first [] h = refl
 none_first (r ∷ rs) h = rw h.0 (none_first rs h.1)
@@ -217,11 +218,11 @@ module _ (s : Settings) (logged now : State) (checks seconds : Tally) where
   unfolding key_on unless first_refusal recovered at_log
   key_on_down = refl
 
-  pub key_off_down : key_off (unit Down s logged now checks seconds) ≡ refuses (unit Down s logged now checks seconds) Refusal.Power
+  pub key_off_down : key_off (unit Down s logged now checks seconds) ≡ refuses (unit Down s logged now checks seconds) (Some Refusal.Power)
   unfolding key_off unless first_refusal
   key_off_down = refl
 
-  pub key_on_up : key_on (unit Up s logged now checks seconds) ≡ refuses (unit Up s logged now checks seconds) Refusal.Power
+  pub key_on_up : key_on (unit Up s logged now checks seconds) ≡ refuses (unit Up s logged now checks seconds) (Some Refusal.Power)
   unfolding key_on unless first_refusal
   key_on_up = refl
 

@@ -1,4 +1,5 @@
 -- Conditions in rising order of their numbers give the lowest number that holds. Assumes nothing.
+use Rattle.std.specs.Prelude.{Some}
 use Prim.Native.Nat.{ℕ, ◌≤◌, ◌<◌}
 use mathlib.Core.Path.{◌≡◌, refl, sym, ◌∙◌}
 use mathlib.Core.Bool.{Bool, true, false, cond}
@@ -30,7 +31,7 @@ module _ (P : List Condition → ℕ → Type 0) (empty : P [] 0)
   up_to_first [] = empty
   up_to_first (r ∷ rs) = go r.holds refl (up_to_first rs)
     where
-      go : (b : Bool) → r.holds ≡ b → P rs (number_of (first_refusal rs)) → P (r ∷ rs) (number_of (cond b r.refusal (first_refusal rs)))
+      go : (b : Bool) → r.holds ≡ b → P rs (number_of (first_refusal rs)) → P (r ∷ rs) (number_of (cond b (Some r.refusal) (first_refusal rs)))
       go true h ih = here r rs h
       go false h ih = later r rs h ih
 

@@ -1,4 +1,5 @@
 -- Proposing and delivering in plain propositions: what each number refuses, what is accepted, and what number 7 is for. Assumes nothing.
+use Rattle.std.specs.Prelude.{Option, Some}
 use Prim.Native.Nat.{ℕ, ◌≤◌, ◌<◌}
 use mathlib.Core.Path.{◌≡◌, refl, sym, ap, ◌∙◌}
 use mathlib.Core.Bool.{Bool, true, false, not, ◌&&◌}
@@ -96,7 +97,7 @@ module _ (l : Limits) (u : U.Unit) (m : Message) where
 
 -- ---- the methods
 
-refused : (cs : List Condition) (u : U.Unit) (a : Answer) (k : Refusal) → first_refusal cs ≡ k → eqb (number_of k) 0 ≡ false
+refused : (cs : List Condition) (u : U.Unit) (a : Answer) (k : Option Refusal) → first_refusal cs ≡ k → eqb (number_of k) 0 ≡ false
     → Refuses (number_of k) u (unless cs u a)
 unfolding unless
 refused cs u a k e some = rw (e, some) (record { number = refl; unit = refl; message = refl; decision = refl })
@@ -108,34 +109,34 @@ module _ (l : Limits) (u : U.Unit) (v : ℕ) where
 
   pub propose_above : u.power ≡ Up → l.max_mileage < v → Refuses 6 u (propose l u v)
   unfolding propose propose_conditions out_of_range first_refusal
-  propose_above up h = refused (propose_conditions l u v) u _ Refusal.Mileage (rw (up, lt-leb v l.max_mileage h)) refl
+  propose_above up h = refused (propose_conditions l u v) u _ (Some Refusal.Mileage) (rw (up, lt-leb v l.max_mileage h)) refl
 
   pub propose_down : u.power ≡ Down → Refuses 9 u (propose l u v)
   unfolding propose propose_conditions first_refusal
-  propose_down down = refused (propose_conditions l u v) u _ Refusal.Power (rw down) refl
+  propose_down down = refused (propose_conditions l u v) u _ (Some Refusal.Power) (rw down) refl
 
 -- in the order 4, 9, 5, 7
 module _ (l : Limits) (u : U.Unit) (m : Message) where
   pub deliver_malformed : message_ok l m ≡ false → Refuses 4 u (deliver l u m)
   unfolding deliver deliver_conditions first_refusal
-  deliver_malformed bad = refused (deliver_conditions l u m) u _ Refusal.Message (rw bad) refl
+  deliver_malformed bad = refused (deliver_conditions l u m) u _ (Some Refusal.Message) (rw bad) refl
 
   module _ (ok : message_ok l m ≡ true) where
     pub deliver_down : u.power ≡ Down → Refuses 9 u (deliver l u m)
     unfolding deliver deliver_conditions first_refusal
-    deliver_down down = refused (deliver_conditions l u m) u _ Refusal.Power (rw (ok, down)) refl
+    deliver_down down = refused (deliver_conditions l u m) u _ (Some Refusal.Power) (rw (ok, down)) refl
 
     module _ (up : u.power ≡ Up) where
       pub deliver_other : (Mine u.settings m → ⊥) → Refuses 5 u (deliver l u m)
       unfolding deliver deliver_conditions first_refusal
       deliver_other other =
-          refused (deliver_conditions l u m) u _ Refusal.Addressee (rw (ok, up, refuted _ (λ h. other (passes_mine u.settings m h)))) refl
+          refused (deliver_conditions l u m) u _ (Some Refusal.Addressee) (rw (ok, up, refuted _ (λ h. other (passes_mine u.settings m h)))) refl
 
       module _ (mine : Mine u.settings m) where
         pub deliver_closing : Closing l u m → Refuses 7 u (deliver l u m)
         unfolding deliver deliver_conditions first_refusal
         deliver_closing c =
-            refused (deliver_conditions l u m) u _ Refusal.LastRound (rw (ok, mine_passes u.settings m mine, closing_holds l u m c, up)) refl
+            refused (deliver_conditions l u m) u _ (Some Refusal.LastRound) (rw (ok, mine_passes u.settings m mine, closing_holds l u m c, up)) refl
 
         pub deliver_accepts : (Closing l u m → ⊥) → deliver l u m ≡ received u m
         unfolding deliver_conditions

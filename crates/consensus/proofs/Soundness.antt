@@ -1,4 +1,5 @@
 -- Every method of a well-formed unit, reachable or not, accepted or refused, leaves what `Sound` says. Assumes nothing.
+use Rattle.std.specs.Prelude.{Option, None}
 use Prim.Native.Nat.{ℕ, ◌^◌, ◌≤◌, ◌<◌}
 use mathlib.Core.Path.{◌≡◌, refl, sym, ap, subst, ◌∙◌}
 use mathlib.Core.Bool.{Bool, true, false, not, or-true}
@@ -56,13 +57,13 @@ use Rattle.consensus.proofs.Found.{votes, common_vote, next_proposal_lem, decide
 -- ---- answers that are sound: v is what becomes of u
 
 module _ (l : Limits) (u v : U.Unit) (same : v.settings ≡ u.settings) (p : Parts l v) where
-  sound_silent : (k : Refusal) (d : Estimate) → mileage_or_blank l d ≡ true
+  sound_silent : (k : Option Refusal) (d : Estimate) → mileage_or_blank l d ≡ true
       → Sound l u (record { refusal = k; unit = v; message = empty_message; decision = d })
   sound_silent k d h = record { unit = well l v p; settings = same; message = inl refl; decision = h }
 
   sound_quiet : Sound l u (quiet v)
   unfolding mileage_or_blank
-  sound_quiet = sound_silent Refusal.None Blank refl
+  sound_quiet = sound_silent None Blank refl
 
   sound_sends : (k : Kind) (to : ℕ) (e o : Estimate) → kind_ok l k (says v k to e o) ≡ true → Sound l u (sends v k to e o)
   unfolding says message_ok mileage_or_blank
@@ -213,7 +214,7 @@ module _ (l : Limits) (u v : U.Unit) (m : Message) (same : v.settings ≡ u.sett
         sound_silent l u (at_round v _ _) same
         (parts_at_round l v p _ _ (omega arith) (omega arith)
         (next_proposal_lem l split v.settings.engine v.settings.n t v.current.proposal all p.states.current.proposal))
-        Refusal.None _ (decided_blank l (common (gathered t)) (common_vote l split (gathered t) all))
+        None _ (decided_blank l (common (gathered t)) (common_vote l split (gathered t) all))
       where
         split : Bool
         split = is_b v.settings.engine
@@ -238,7 +239,7 @@ module _ (l : Limits) (u v : U.Unit) (m : Message) (same : v.settings ≡ u.sett
 -- ---- the methods
 
 module _ (l : Limits) (u : U.Unit) (w : WellFormed l u) where
-  sound_refuses : (k : Refusal) → Sound l u (refuses u k)
+  sound_refuses : (k : Option Refusal) → Sound l u (refuses u k)
   unfolding mileage_or_blank
   sound_refuses k = sound_silent l u u refl (parts l u w) k Blank refl
 

@@ -1,5 +1,5 @@
 -- Why a call is refused: conditions in the order of the call, each a row of the table of numbers, and the number that they give. Assumes nothing.
-use Rattle.std.specs.Prelude.{ℕ, ◌≤◌, ◌≡◌, Bool, true, false, cond, List, [], ◌∷◌, ◌⊎◌}
+use Rattle.std.specs.Prelude.{ℕ, ◌≤◌, ◌≡◌, Bool, true, false, cond, List, [], ◌∷◌, ◌⊎◌, Option, Some, None}
 use Rattle.tally.specs.Refusal.{number_of}
 use Rattle.tally.specs.declared.Refusal.{Refusal}
 
@@ -12,12 +12,12 @@ abbrev pub condition : Refusal → Bool → Condition
 condition k b = record { refusal = k; holds = b }
 
 abbrev pub condition_number : Condition → ℕ
-condition_number r = number_of r.refusal
+condition_number r = number_of (Some r.refusal)
 
--- the first condition that holds
-unfoldable pub first_refusal : List Condition → Refusal
-first_refusal [] = Refusal.None
-first_refusal (r ∷ rs) = cond r.holds r.refusal (first_refusal rs)
+-- the refusal of the first condition that holds
+unfoldable pub first_refusal : List Condition → Option Refusal
+first_refusal [] = None
+first_refusal (r ∷ rs) = cond r.holds (Some r.refusal) (first_refusal rs)
 
 -- no condition holds
 abbrev pub NoneHolds : List Condition → Type 0

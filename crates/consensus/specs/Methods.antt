@@ -1,5 +1,5 @@
 -- The methods of a unit: what is refused first, and else the step. Assumes nothing.
-use Rattle.std.specs.Prelude.{ℕ, Bool, true, false, not, cond, ◌&&◌, ◌||◌, List, [], ◌∷◌, eqb}
+use Rattle.std.specs.Prelude.{ℕ, Bool, true, false, not, cond, ◌&&◌, ◌||◌, List, [], ◌∷◌, eqb, Option}
 use Rattle.tally.specs.Limits.{Limits, everyone}
 use Rattle.tally.specs.Refusal.{number_of}
 use Rattle.tally.specs.Tally.{is_marked}
@@ -59,7 +59,7 @@ closes_last l u m =
 -- ---- the methods
 
 -- a refusal changes nothing, sends nothing and decides nothing
-abbrev pub refuses : U.Unit → Refusal → Answer
+abbrev pub refuses : U.Unit → Option Refusal → Answer
 refuses u k = record { refusal = k; unit = u; message = empty_message; decision = Blank }
 
 -- the first condition that holds refuses; where none does, the answer

@@ -1,6 +1,6 @@
 -- The step of both engines: Algorithm 1 (B) and Algorithm 2 (R) of the source, with their line numbers; lines 1 to 26 are numbered alike in both.
 -- The scope paper's five readings of the source are named where they act. Assumes nothing.
-use Rattle.std.specs.Prelude.{ℕ, ◌+◌, Bool, not, cond, ◌&&◌, leb, ltb}
+use Rattle.std.specs.Prelude.{ℕ, ◌+◌, Bool, not, cond, ◌&&◌, leb, ltb, None}
 use Rattle.std.specs.Int.Count.{ones}
 use Rattle.tally.specs.Gathered.{common, lowest, majority}
 use Rattle.tally.specs.Limits.{everyone}
@@ -10,7 +10,6 @@ use Rattle.tally.specs.declared.Engine.{Engine}
 use Rattle.tally.specs.declared.Engine.TheVariants.{B, R}
 use Rattle.tally.specs.declared.Estimate.{Estimate}
 use Rattle.tally.specs.declared.Estimate.TheVariants.{Blank, Split, Mileage}
-use Rattle.tally.specs.declared.Refusal.{Refusal}
 use Rattle.tally.specs.declared.Tally.{Tally}
 use Rattle.contents.specs.Estimates.{is_blank}
 use Rattle.contents.specs.Messages.{empty_message}
@@ -28,7 +27,7 @@ use Rattle.consensus.specs.declared.Unit as U
 
 -- an accepted answer
 abbrev pub gives : U.Unit → Message → Estimate → Answer
-gives u m d = record { refusal = Refusal.None; unit = u; message = m; decision = d }
+gives u m d = record { refusal = None; unit = u; message = m; decision = d }
 
 -- nothing is sent, nothing decided: an empty message is what a step that sends nothing gives
 abbrev pub quiet : U.Unit → Answer

@@ -11,7 +11,7 @@ use contents::{Log, Message, Settings, State};
 use tally::{Estimate, Refusal, Tally};
 
 // A unit is down, or up with estimates.
-#[derive(Clone, Copy)]
+#[derive(Clone, Copy, PartialEq, Eq)]
 pub enum Power {
     Down,
     Up,
@@ -19,7 +19,7 @@ pub enum Power {
 
 // A unit: what its log holds, and its current contents, which are lost at key-off. A down unit has its log's contents as the
 // current ones and no marks, so that nothing of a lost image is left to read.
-#[derive(Clone, Copy)]
+#[derive(Clone, Copy, PartialEq, Eq)]
 pub struct Unit {
     pub power: Power,
     pub settings: Settings,
@@ -29,10 +29,11 @@ pub struct Unit {
     pub seconds: Tally,
 }
 
-// What a step answers: a refusal or None, the unit after it, the message to send (kind Empty for none), and a mileage decided or blank.
-#[derive(Clone, Copy)]
+// What a step answers: why it is refused, if it is, the unit after it, the message to send (kind Empty for none), and a mileage decided or blank.
+// A refused method hands the unit back too, so the refusal stands beside it.
+#[derive(Clone, Copy, PartialEq, Eq)]
 pub struct Answer {
-    pub refusal: Refusal,
+    pub refusal: Option<Refusal>,
     pub unit: Unit,
     pub message: Message,
     pub decision: Estimate,
@@ -42,21 +43,20 @@ impl Unit {
     pub fn log(self) -> Log
         ensures { result ≡ unit_log self }
     {
-        let settings = self.settings;
-        let state = self.logged;
-        Log { settings, state }
+        Log {
+            settings: self.settings,
+            state: self.logged,
+        }
     }
 
-    // The up unit of a log and of what an image that fits it holds.
+    // The up unit of a log and of what an image that fits it holds, by its parts, as they are read: nothing reads an image whole.
     pub fn up(log: Log, current: State, checks: Tally, seconds: Tally) -> Unit
         ensures { result ≡ up_unit log (record { settings = log.settings; state = current; checks = checks; seconds = seconds }) }
     {
-        let settings = log.settings;
-        let logged = log.state;
         Unit {
             power: Power::Up,
-            settings,
-            logged,
+            settings: log.settings,
+            logged: log.state,
             current,
             checks,
             seconds,
@@ -83,8 +83,6 @@ impl Unit {
     pub(crate) fn down(log: Log) -> Unit
         ensures { result ≡ down_unit log }
     {
-        let settings = log.settings;
-        let state = log.state;
-        Unit::at_log(Power::Down, settings, state)
+        Unit::at_log(Power::Down, log.settings, log.state)
     }
 }

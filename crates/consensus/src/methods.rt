@@ -1,24 +1,19 @@
 // The methods of a unit: what is refused first, and else the step. The public ones hand back the unit after it.
-ghost use Rattle.std.specs.Prelude.{◌≡◌, true, ◌<◌};
-ghost use Rattle.tally.specs.Limits.{today, senders};
-ghost use Rattle.tally.specs.declared.Estimate.TheVariants.{Blank};
-ghost use Rattle.contents.specs.Messages.{empty_message, message_ok};
+ghost use Rattle.std.specs.Prelude.{◌≡◌};
+ghost use Rattle.tally.specs.Limits.{today};
 ghost use Rattle.consensus.specs.Methods.{is_up, for_other, out_of_range, is_second, closes_last, refuses, propose, deliver, key_off, key_on};
-ghost use Rattle.consensus.specs.InnerMethods.{deliver_read};
+ghost use Rattle.consensus.specs.InnerMethods.{taken, deliver_read};
 
-use super::step::{NOTHING, Said};
+use super::step::{Checked, Said};
 use super::{Answer, Power, Unit, step};
 use contents::{Kind, Message, Settings};
-use rules::{estimates, messages};
+use rules::estimates;
 use tally::{Estimate, Refusal, limits};
 
 pub fn is_up(power: Power) -> bool
     ensures { result ≡ is_up power }
 {
-    match power {
-        Power::Down => false,
-        Power::Up => true,
-    }
+    power == Power::Up
 }
 
 // Another engine, n, entry or receiver?
@@ -26,9 +21,7 @@ pub fn is_up(power: Power) -> bool
 fn for_other(s: Settings, m: Message) -> bool
     ensures { result ≡ for_other s m }
 {
-    let engine = s.engine;
-    let sent = m.engine;
-    !(estimates::same_engine(engine, sent)
+    !((s.engine == m.engine)
         & (s.n == m.n)
         & (s.entry == m.entry)
         & ((m.receiver == limits::EVERYONE) | (m.receiver == s.unit)))
@@ -44,45 +37,20 @@ fn out_of_range(mileage: u32) -> bool
 fn is_second(kind: Kind) -> bool
     ensures { result ≡ is_second kind }
 {
-    match kind {
-        Kind::Empty => false,
-        Kind::First => false,
-        Kind::Check => false,
-        Kind::Second => true,
-        Kind::Skip => false,
-    }
-}
-
-// What a method answers beside the unit.
-#[derive(Clone, Copy)]
-struct Taken {
-    refusal: Refusal,
-    said: Said,
-}
-
-// A refusal sends nothing and decides nothing.
-fn turned_down(refusal: Refusal) -> Taken
-    ensures { (result.refusal ≡ refusal) × ((result.said.message ≡ empty_message) × (result.said.decision ≡ Blank)) }
-{
-    Taken {
-        refusal,
-        said: NOTHING,
-    }
+    kind == Kind::Second
 }
 
 impl Unit {
     // Would this SECOND close the last round?
     #[tactic(auto, unfolding(crate::specs::Methods::closes_last, crate::specs::Step::is_full, crate::specs::Step::seconds_with))]
-    fn closes_last(&self, m: Message) -> bool
-        requires { m.sender < senders }
-        ensures { result ≡ closes_last today self.now m }
+    fn closes_last(&self, m: Checked) -> bool
+        ensures { result ≡ closes_last today self.now m.message }
     {
-        let kind = m.kind;
-        if is_second(kind)
-            & (m.round == limits::LAST_ROUND)
+        if is_second(m.message.kind)
+            & (m.message.round == limits::LAST_ROUND)
             & (self.current.round == limits::LAST_ROUND)
         {
-            !tally::is_marked(self.seconds.marks, m.sender)
+            !tally::is_marked(self.seconds.marks, m.message.sender)
                 & step::is_full(self.settings, &step::marked(&self.seconds, m))
         } else {
             false
@@ -90,7 +58,7 @@ impl Unit {
     }
 
     // A refusal changes nothing, sends nothing and decides nothing.
-    pub fn refused(self, refusal: Refusal) -> Answer
+    pub fn refused(self, refusal: Option<Refusal>) -> Answer
         ensures { result ≡ refuses self refusal }
     {
         Answer {
@@ -101,65 +69,44 @@ impl Unit {
         }
     }
 
-    // What was taken, beside the unit after it.
-    fn answers(self, taken: Taken) -> Answer
-        ensures { result ≡ record { refusal = taken.refusal; unit = self; message = taken.said.message; decision = taken.said.decision } }
-    {
-        Answer {
-            refusal: taken.refusal,
-            unit: self,
-            message: taken.said.message,
-            decision: taken.said.decision,
-        }
-    }
-
-    // A delivery of a message found well formed and for this unit, which is up: 7 is the one refusal left.
+    // A delivery of a well-formed message that is for this unit, which is up: 7 is the one refusal left.
     #[tactic(auto, unfolding(crate::specs::InnerMethods::deliver_read, crate::specs::Methods::unless, crate::specs::Conditions::first_refusal))]
     #[inline(always)]
-    fn deliver_read(&mut self, m: Message) -> Taken
-        requires { message_ok today m ≡ true }
-        ensures { deliver_read today self.old m
-            ≡ record { refusal = result.refusal; unit = self.new; message = result.said.message; decision = result.said.decision } }
+    fn deliver_read(&mut self, m: Checked) -> Result<Said, Refusal>
+        ensures { taken self.new result ≡ deliver_read today self.old m.message }
     {
         if self.closes_last(m) {
-            return turned_down(Refusal::LastRound);
+            return Err(Refusal::LastRound);
         }
-        Taken {
-            refusal: Refusal::None,
-            said: self.received(m),
-        }
+        Ok(self.received(m))
     }
 
     // A delivery, in place.
     #[inline(always)]
-    fn take(&mut self, m: Message) -> Taken
-        ensures { deliver today self.old m
-            ≡ record { refusal = result.refusal; unit = self.new; message = result.said.message; decision = result.said.decision } }
+    fn take(&mut self, m: Message) -> Result<Said, Refusal>
+        ensures { taken self.new result ≡ deliver today self.old m }
     {
-        let power = self.power;
-        let settings = self.settings;
-        if !messages::well_formed(m) {
-            return turned_down(Refusal::Message);
+        let Some(checked) = Checked::of(m) else {
+            return Err(Refusal::Message);
+        };
+        if !is_up(self.power) {
+            return Err(Refusal::Power);
         }
-        if !is_up(power) {
-            return turned_down(Refusal::Power);
+        if for_other(self.settings, m) {
+            return Err(Refusal::Addressee);
         }
-        if for_other(settings, m) {
-            return turned_down(Refusal::Addressee);
-        }
-        self.deliver_read(m)
+        self.deliver_read(checked)
     }
 
     // Proposes a mileage.
     pub fn propose(self, mileage: u32) -> Answer
         ensures { result ≡ propose today self mileage }
     {
-        let power = self.power;
-        if !is_up(power) {
-            return self.refused(Refusal::Power);
+        if !is_up(self.power) {
+            return self.refused(Some(Refusal::Power));
         }
         if out_of_range(mileage) {
-            return self.refused(Refusal::Mileage);
+            return self.refused(Some(Refusal::Mileage));
         }
         self.proposed(mileage)
     }
@@ -169,8 +116,10 @@ impl Unit {
     pub fn deliver(mut self, m: Message) -> Answer
         ensures { result ≡ deliver today self m }
     {
-        let taken = self.take(m);
-        self.answers(taken)
+        match self.take(m) {
+            Ok(said) => self.gives(said),
+            Err(refusal) => self.refused(Some(refusal)),
+        }
     }
 
     // The unit goes down, and its image is lost.
@@ -178,11 +127,10 @@ impl Unit {
     pub fn key_off(self) -> Answer
         ensures { result ≡ key_off self }
     {
-        let power = self.power;
-        if is_up(power) {
+        if is_up(self.power) {
             Unit::down(self.log()).quiet()
         } else {
-            self.refused(Refusal::Power)
+            self.refused(Some(Refusal::Power))
         }
     }
 
@@ -191,9 +139,8 @@ impl Unit {
     pub fn key_on(self) -> Answer
         ensures { result ≡ key_on self }
     {
-        let power = self.power;
-        if is_up(power) {
-            self.refused(Refusal::Power)
+        if is_up(self.power) {
+            self.refused(Some(Refusal::Power))
         } else {
             self.recovered().quiet()
         }

@@ -1,8 +1,10 @@
-// The step of both engines, after B*-Consensus and R*-Consensus: specs/Step has it with the source's line numbers.
-ghost use Rattle.std.specs.Prelude.{◌≡◌, ◌<◌, ◌≤◌, leb};
+// The step of both engines, after B*-Consensus and R*-Consensus: specs/Step has it with the source's line numbers. A step of CHECKs and one of SECONDs may
+// look alike: each is after its own lines of the source.
+ghost use Rattle.std.specs.Prelude.{◌≡◌, ◌<◌, ◌≤◌, leb, is_some, IfSome};
 ghost use Rattle.std.specs.Int.Count.{ones};
 ghost use Rattle.tally.specs.Limits.{today, senders};
 ghost use Rattle.tally.specs.Quorum.{quorum_of};
+ghost use Rattle.contents.specs.Messages.{message_ok};
 ghost use Rattle.tally.specs.Tally.{mark};
 ghost use Rattle.consensus.specs.Step.{gives, quiet, says, sends, log_write, clean, at_round, fresh, recovered};
 ghost use Rattle.consensus.specs.Step.{or_if_blank, send_first, proposed, vote_kind, vote_proposal, take_first, on_first, take_second, count_check, on_check};
@@ -10,9 +12,9 @@ ghost use Rattle.consensus.specs.Step.{decided, next_proposal, close, count_seco
 
 use super::{Answer, Power, Unit};
 use contents::{Kind, Message, Settings, State};
-use rules::estimates;
+use rules::{estimates, messages};
 use tally::limits::Round;
-use tally::{Engine, Estimate, Refusal, Tally, limits};
+use tally::{Engine, Estimate, Tally, limits};
 
 // An empty message is what a step that sends nothing gives.
 pub const EMPTY: Message = Message {
@@ -27,8 +29,30 @@ pub const EMPTY: Message = Message {
     proposal: Estimate::Blank,
 };
 
-// What a step tells beside the unit: the message to send, and a mileage decided or blank.
+// A message that was found well formed. Of this the step needs that its sender has a place in a tally, and that its round is no higher than the last.
 #[derive(Clone, Copy)]
+pub(crate) struct Checked {
+    pub(crate) message: Message,
+    ghost placed: { message.sender < senders },
+    ghost in_rounds: { message.round ≤ today.last_round },
+}
+
+impl Checked {
+    // The message, where it is well formed.
+    pub(crate) fn of(message: Message) -> Option<Checked>
+        ensures well_formed { message_ok today message ≡ is_some result }
+        ensures same { IfSome result (λ checked. checked.message ≡ message) }
+    {
+        if messages::well_formed(message) {
+            Some(Checked { message })
+        } else {
+            None
+        }
+    }
+}
+
+// What a step tells beside the unit: the message to send, and a mileage decided, or blank, which a delivery reports where nothing is decided.
+#[derive(Clone, Copy, PartialEq, Eq)]
 pub(crate) struct Said {
     pub(crate) message: Message,
     pub(crate) decision: Estimate,
@@ -83,9 +107,8 @@ fn decided(e: Estimate) -> Estimate
     ensures { result ≡ decided e }
 {
     match e {
-        Estimate::Blank => Estimate::Blank,
-        Estimate::Split => Estimate::Blank,
-        Estimate::Mileage(v) => Estimate::Mileage(v),
+        Estimate::Mileage(_) => e,
+        _ => Estimate::Blank,
     }
 }
 
@@ -104,26 +127,23 @@ fn next_proposal(engine: Engine, n: u8, t: &Tally, own: Estimate) -> Estimate
 pub(crate) fn is_full(s: Settings, t: &Tally) -> bool
     ensures { result ≡ leb (quorum_of s.engine s.n) (ones t.now.marks) }
 {
-    let engine = s.engine;
-    tally::quorum(engine, s.n) <= t.count()
+    tally::quorum(s.engine, s.n) <= t.count()
 }
 
 // A tally with a message's sender marked, and its estimate.
-pub(crate) fn marked(t: &Tally, m: Message) -> Tally
-    requires { m.sender < senders }
-    ensures { result ≡ mark t.now m.sender m.estimate }
+pub(crate) fn marked(t: &Tally, m: Checked) -> Tally
+    ensures { result ≡ mark t.now m.message.sender m.message.estimate }
 {
-    let estimate = m.estimate;
-    t.mark(m.sender, estimate)
+    t.mark(m.message.sender, m.message.estimate)
 }
 
 impl Unit {
     // ---- answers: a step changes the unit where it stands, and its answer is given once
-    fn gives(self, said: Said) -> Answer
+    pub(crate) fn gives(self, said: Said) -> Answer
         ensures { result ≡ gives self said.message said.decision }
     {
         Answer {
-            refusal: Refusal::None,
+            refusal: None,
             unit: self,
             message: said.message,
             decision: said.decision,
@@ -142,15 +162,13 @@ impl Unit {
     fn says(&self, kind: Kind, receiver: u8, estimate: Estimate, proposal: Estimate) -> Message
         ensures { result ≡ says self.now kind receiver estimate proposal }
     {
-        let settings = self.settings;
-        let engine = settings.engine;
         Message {
             kind,
-            engine,
-            n: settings.n,
-            sender: settings.unit,
+            engine: self.settings.engine,
+            n: self.settings.n,
+            sender: self.settings.unit,
             receiver,
-            entry: settings.entry,
+            entry: self.settings.entry,
             round: self.current.round,
             estimate,
             proposal,
@@ -181,11 +199,9 @@ impl Unit {
     fn at_round(&mut self, round: Round, proposal: Estimate)
         ensures { self.new ≡ at_round self.old round proposal }
     {
-        let current = clean(round, proposal);
-        let none = Tally::empty();
-        self.current = current;
-        self.checks = none;
-        self.seconds = none;
+        self.current = clean(round, proposal);
+        self.checks = Tally::empty();
+        self.seconds = Tally::empty();
     }
 
     // ---- starting, and key-on
@@ -202,9 +218,7 @@ impl Unit {
     pub(crate) fn recovered(self) -> Unit
         ensures { result ≡ recovered self }
     {
-        let settings = self.settings;
-        let logged = self.logged;
-        Unit::at_log(Power::Up, settings, logged)
+        Unit::at_log(Power::Up, self.settings, self.logged)
     }
 
     // ---- to propose
@@ -222,8 +236,8 @@ impl Unit {
     pub(crate) fn proposed(mut self, mileage: u32) -> Answer
         ensures { result ≡ proposed self mileage }
     {
-        let proposal = self.current.proposal;
-        let said = self.send_first(or_if_blank(proposal, Estimate::Mileage(mileage)));
+        let proposal = or_if_blank(self.current.proposal, Estimate::Mileage(mileage));
+        let said = self.send_first(proposal);
         self.gives(said)
     }
 
@@ -234,11 +248,10 @@ impl Unit {
         ensures { gives self.new result.message result.decision ≡ take_first self.old e }
     {
         let engine = self.settings.engine;
-        let current = self.current;
-        let own = current.proposal;
+        let own = self.current.proposal;
         self.log_write(State {
             first: e,
-            ..current
+            ..self.current
         });
         self.sends(
             vote_kind(engine),
@@ -252,10 +265,8 @@ impl Unit {
     fn on_first(&mut self, m: Message) -> Said
         ensures { gives self.new result.message result.decision ≡ on_first self.old m }
     {
-        let first = self.current.first;
-        let proposal = m.proposal;
-        if estimates::is_blank(first) {
-            return self.take_first(proposal);
+        if estimates::is_blank(self.current.first) {
+            return self.take_first(m.proposal);
         }
         NOTHING
     }
@@ -266,11 +277,10 @@ impl Unit {
     fn take_second(&mut self, e: Estimate) -> Said
         ensures { gives self.new result.message result.decision ≡ take_second self.old e }
     {
-        let current = self.current;
-        let own = current.proposal;
+        let own = self.current.proposal;
         self.log_write(State {
             second: e,
-            ..current
+            ..self.current
         });
         self.checks = Tally::empty();
         self.sends(Kind::Second, limits::EVERYONE, e, own)
@@ -288,12 +298,12 @@ impl Unit {
     }
 
     #[tactic(auto, unfolding(crate::specs::Step::on_check, crate::specs::Step::checks_with))]
-    fn on_check(&mut self, m: Message) -> Said
-        requires { m.sender < senders }
-        ensures { gives self.new result.message result.decision ≡ on_check self.old m }
+    fn on_check(&mut self, m: Checked) -> Said
+        ensures { gives self.new result.message result.decision ≡ on_check self.old m.message }
     {
-        let second = self.current.second;
-        if estimates::is_blank(second) & !tally::is_marked(self.checks.marks, m.sender) {
+        if estimates::is_blank(self.current.second)
+            & !tally::is_marked(self.checks.marks, m.message.sender)
+        {
             let t = marked(&self.checks, m);
             return self.count_check(&t);
         }
@@ -301,17 +311,19 @@ impl Unit {
     }
 
     // ---- SECOND
-    // A mileage that all gathered hold is decided; the round rises by 1, estimates and marks are blanked.
+    // A mileage that all gathered hold is decided; the round rises by 1, estimates and marks are blanked. That its round is no higher than the last is asked:
+    // of a unit this is known once it has caught up, and no sooner, so it is no field of a type.
     #[tactic(auto, unfolding(crate::specs::Step::close))]
     fn close(&mut self, t: &Tally) -> Said
         requires { self.old.current.round ≤ today.last_round }
         ensures { gives self.new result.message result.decision ≡ close self.old t.now }
     {
         let settings = self.settings;
-        let engine = settings.engine;
-        let current = self.current;
-        let own = current.proposal;
-        self.at_round(current.round + 1, next_proposal(engine, settings.n, t, own));
+        let own = self.current.proposal;
+        self.at_round(
+            self.current.round + 1,
+            next_proposal(settings.engine, settings.n, t, own),
+        );
         Said {
             message: EMPTY,
             decision: decided(t.common()),
@@ -331,26 +343,26 @@ impl Unit {
     }
 
     #[tactic(auto, unfolding(crate::specs::Step::on_second, crate::specs::Step::seconds_with))]
-    fn on_second(&mut self, m: Message) -> Said
-        requires { (m.sender < senders) × (self.old.current.round ≤ today.last_round) }
-        ensures { gives self.new result.message result.decision ≡ on_second self.old m }
+    fn on_second(&mut self, m: Checked) -> Said
+        requires { self.old.current.round ≤ today.last_round }
+        ensures { gives self.new result.message result.decision ≡ on_second self.old m.message }
     {
-        if tally::is_marked(self.seconds.marks, m.sender) {
+        if tally::is_marked(self.seconds.marks, m.message.sender) {
             return NOTHING;
         }
         let t = marked(&self.seconds, m);
         self.count_second(&t)
     }
 
-    // ---- any message
+    // ---- any message: one match of the kinds, as the definition has it
     #[tactic(auto, unfolding(crate::specs::Step::on_kind))]
-    fn on_kind(&mut self, kind: Kind, m: Message) -> Said
-        requires { (m.sender < senders) × (self.old.current.round ≤ today.last_round) }
-        ensures { gives self.new result.message result.decision ≡ on_kind kind self.old m }
+    fn on_kind(&mut self, m: Checked) -> Said
+        requires { self.old.current.round ≤ today.last_round }
+        ensures { gives self.new result.message result.decision ≡ on_kind m.message.kind self.old m.message }
     {
-        match kind {
+        match m.message.kind {
             Kind::Empty => NOTHING,
-            Kind::First => self.on_first(m),
+            Kind::First => self.on_first(m.message),
             Kind::Check => self.on_check(m),
             Kind::Second => self.on_second(m),
             Kind::Skip => NOTHING,
@@ -362,8 +374,7 @@ impl Unit {
     fn skip(&self, receiver: u8) -> Said
         ensures { gives self.now result.message result.decision ≡ skip self.now receiver }
     {
-        let own = self.current.proposal;
-        self.sends(Kind::Skip, receiver, Estimate::Blank, own)
+        self.sends(Kind::Skip, receiver, Estimate::Blank, self.current.proposal)
     }
 
     // A message above the unit's round raises it.
@@ -371,22 +382,19 @@ impl Unit {
     fn caught_up(&mut self, m: Message)
         ensures { self.new ≡ caught_up self.old m }
     {
-        let proposal = m.proposal;
         if self.current.round < m.round {
-            self.at_round(m.round, proposal);
+            self.at_round(m.round, m.proposal);
         }
     }
 
     #[tactic(auto, unfolding(crate::specs::Step::received))]
-    pub(crate) fn received(&mut self, m: Message) -> Said
-        requires { (m.sender < senders) × (m.round ≤ today.last_round) }
-        ensures { gives self.new result.message result.decision ≡ received self.old m }
+    pub(crate) fn received(&mut self, m: Checked) -> Said
+        ensures { gives self.new result.message result.decision ≡ received self.old m.message }
     {
-        let kind = m.kind;
-        if m.round < self.current.round {
-            return self.skip(m.sender);
+        if m.message.round < self.current.round {
+            return self.skip(m.message.sender);
         }
-        self.caught_up(m);
-        self.on_kind(kind, m)
+        self.caught_up(m.message);
+        self.on_kind(m)
     }
 }

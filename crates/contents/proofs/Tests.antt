@@ -1,11 +1,16 @@
 -- Facts from tests that are passed. Assumes nothing.
 use Prim.Native.Nat.{ℕ, zero, suc, ◌<◌}
-use mathlib.Core.Path.{◌≡◌, refl, sym, subst, ◌∙◌}
-use mathlib.Core.Bool.{Bool, true, false, ◌&&◌, ◌||◌}
+use mathlib.Core.Path.{◌≡◌, refl, sym, subst, ap, ◌∙◌}
+use mathlib.Core.Bool.{Bool, true, false, ◌&&◌, ◌||◌, and-true}
 use native.Mathlib.Decide.{dec_lt}
 use native.Mathlib.Omega.{arith}
+use Rattle.tally.specs.Limits.{Limits, senders}
+use Rattle.tally.specs.Tally.{is_marked, estimate_at}
+use Rattle.tally.specs.declared.Tally.{Tally}
+use Rattle.tally.proofs.Marks.{unmarked_none}
 use Rattle.tally.proofs.Never.{never}
-use Rattle.contents.specs.Images.{every}
+use Rattle.contents.specs.Estimates.{is_blank}
+use Rattle.contents.specs.Images.{every, cell_ok, cells_ok}
 
 pub both_true : (a b : Bool) → (a && b) ≡ true → (a ≡ true) × (b ≡ true)
 both_true true b e = (refl, e)
@@ -24,3 +29,19 @@ every_at (suc k) P h s b = go (both_true (every k P) (P k) h) (every_at k P) (de
     go : (every k P ≡ true) × (P k ≡ true) → (every k P ≡ true → (s : ℕ) → s < k → P s ≡ true) → Dec (s < k) → P s ≡ true
     go a ih (yes l) = ih a.0 s l
     go a ih (no n) = let e : k ≡ s = omega arith in subst (λ x. P x ≡ true) e a.1
+
+-- ---- places that are not marked
+
+every_alike : (k : ℕ) (P Q : ℕ → Bool) → ((s : ℕ) → P s ≡ Q s) → every k P ≡ every k Q
+unfolding every
+every_alike zero P Q same = refl
+every_alike (suc k) P Q same = rw (every_alike k P Q same, same k)
+
+-- a tally without marks is well formed where each place is blank
+pub blank_places : (l : Limits) (split : Bool) (n : ℕ) (t : Tally) → t.marks ≡ 0
+    → every senders (λ u. is_blank (estimate_at t u)) ≡ cells_ok l split n t
+unfolding cell_ok cells_ok
+blank_places l split n t none =
+    every_alike senders _ _
+    (λ s. sym (ap (λ (m : Bool). cell_ok l split n s m (estimate_at t s)) (ap (λ (x : ℕ). is_marked x s) none ∙ unmarked_none s)
+    ∙ and-true (is_blank (estimate_at t s))))

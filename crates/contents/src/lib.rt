@@ -5,7 +5,7 @@ use tally::limits::Round;
 use tally::{Engine, Estimate, Tally};
 
 // What a unit is started with: engine, number of units n, its own number, and the entry that it settles.
-#[derive(Clone, Copy)]
+#[derive(Clone, Copy, PartialEq, Eq)]
 pub struct Settings {
     pub engine: Engine,
     pub n: u8,
@@ -14,7 +14,7 @@ pub struct Settings {
 }
 
 // Where a unit stands in its entry.
-#[derive(Clone, Copy)]
+#[derive(Clone, Copy, PartialEq, Eq)]
 pub struct State {
     pub round: Round,
     pub proposal: Estimate,
@@ -23,7 +23,7 @@ pub struct State {
 }
 
 // A log: what a unit keeps over a key-off.
-#[derive(Clone, Copy)]
+#[derive(Clone, Copy, PartialEq, Eq)]
 pub struct Log {
     pub settings: Settings,
     pub state: State,
@@ -31,7 +31,7 @@ pub struct Log {
 
 // An image (the scope paper's term): what a unit has while it is up, lost at key-off. Its current contents, and the
 // CHECKs and SECONDs counted.
-#[derive(Clone, Copy)]
+#[derive(Clone, Copy, PartialEq, Eq)]
 pub struct Image {
     pub settings: Settings,
     pub state: State,
@@ -39,8 +39,9 @@ pub struct Image {
     pub seconds: Tally,
 }
 
-// FIRST, CHECK, SECOND and SKIP, the scope paper's kinds; an empty message counts as no message.
-#[derive(Clone, Copy)]
+// FIRST, CHECK, SECOND and SKIP, the scope paper's kinds; an empty message counts as no message. Empty is a case and no None: an empty message has bytes
+// of its own, and is what a step that sends nothing gives.
+#[derive(Clone, Copy, PartialEq, Eq)]
 pub enum Kind {
     Empty,
     First,
@@ -50,7 +51,7 @@ pub enum Kind {
 }
 
 // A message, with the sender's engine, n and entry. The receiver is a unit, or everyone.
-#[derive(Clone, Copy)]
+#[derive(Clone, Copy, PartialEq, Eq)]
 pub struct Message {
     pub kind: Kind,
     pub engine: Engine,

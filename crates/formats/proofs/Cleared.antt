@@ -1,4 +1,5 @@
 -- Empty messages: cleared buffers, and that the empty message is neither read nor written as a message. Assumes nothing.
+use Rattle.std.specs.Prelude.{Some}
 use mathlib.Core.Path.{◌≡◌, refl, sym, ◌∙◌}
 use mathlib.Core.Bool.{Bool, true, false, cond, ◌&&◌, and-false}
 use mathlib.Core.List.{List}
@@ -39,7 +40,7 @@ num_zeros n o zero = refl
 num_zeros n o (suc k) = rw (num_zeros n o k, zeros n (o + k))
 
 -- an empty message counts as no message, and reading it gives 4
-pub empty_read : (l : Limits) → read_message l (empty_bytes l) ≡ reading (number_of Refusal.Message) empty_message
+pub empty_read : (l : Limits) → read_message l (empty_bytes l) ≡ reading (number_of (Some Refusal.Message)) empty_message
 unfolding read_message
 empty_read l =
     read_numbers_in (message_format l) (empty_bytes l) (length-replicate {A = ℕ} (message_size l) 0) (num_zeros (message_size l) _ 1)
@@ -47,7 +48,7 @@ empty_read l =
 
 -- writing contents of kind Empty gives 4 too
 pub empty_written : (l : Limits) (m : Message) (bs : List ℕ) → m.kind ≡ Empty → length bs ≡ message_size l
-    → write_message l m bs ≡ wrote (number_of Refusal.Message) (empty_bytes l)
+    → write_message l m bs ≡ wrote (number_of (Some Refusal.Message)) (empty_bytes l)
 unfolding write_message message_ok kind_ok cleared
 empty_written l m bs k size =
     let bad : message_ok l m ≡ false = rw k (and-false (numbers_ok m.n m.sender m.entry && round_ok l m.round)) in

@@ -1,8 +1,8 @@
 -- An image's format is lawful, and its bytes are a log's and two tallies', one after the other. Assumes nothing.
+use Rattle.std.specs.Prelude.{Some}
 use mathlib.Core.Path.{◌≡◌, refl, sym, ap, ap₂, ◌∙◌}
 use mathlib.Core.Bool.{Bool, true, false}
 use mathlib.Core.List.{List, [], ◌∷◌, ◌++◌, map}
-use mathlib.Core.Option.{some}
 use Prim.Native.Nat.{ℕ, suc, ◌+◌, ◌<◌}
 use native.Mathlib.Omega.{arith}
 use lib.ListN.{length, get_or, take, drop, replicate, length-append, length-drop, length-map, take-append-drop}
@@ -27,7 +27,6 @@ use Rattle.formats.specs.Logs.{log_widths, log_zero, log_numbers}
 use Rattle.formats.specs.Numbers.{Bytes}
 use Rattle.formats.specs.InnerNumbers.{pack_into, total}
 use Rattle.formats.specs.RoundTrip.{RoundTrip}
-use Rattle.formats.specs.declared.EngineRead.TheVariants.{Is}
 use Rattle.formats.proofs.Letters.{engine_letter, made, code_estimate, estimate_code, code_fits}
 use Rattle.formats.proofs.LogFormat as log
 use Rattle.formats.proofs.RoundTrips.{LawfulFormat, round_trip, read_parsed}
@@ -62,8 +61,8 @@ pub numbers_tally : (vs : List ℕ) → 0 < length vs → tally_numbers (tally_o
 numbers_tally [] h = absurd (omega arith)
 numbers_tally (v ∷ vs) h = ap (◌∷◌ v) (codes_cells vs)
 
-numbers_image : (e : Engine) (vs : List ℕ) → length vs ≡ log_fields + tally_fields + tally_fields → engine_of (get_or vs 0 0) ≡ Is e → image_numbers
-    (image_of e vs) ≡ vs
+numbers_image : (e : Engine) (vs : List ℕ) → length vs ≡ log_fields + tally_fields + tally_fields → engine_of (get_or vs 0 0) ≡ Some e
+    → image_numbers (image_of e vs) ≡ vs
 numbers_image e vs len p =
     let rest = drop log_fields vs in
     let long : length rest ≡ tally_fields + tally_fields = simp length-drop (omega arith) in
@@ -105,7 +104,7 @@ module _ (l : Limits) (sane : Sane l) where
     pub tally_fit : Fit tally_widths (tally_numbers t)
     tally_fit = (omega (arith, typed.marks), rw typed.cells at (cells_fit t.cells known))
 
-  parsed : (i : Image) → TypedImage i → image_ok l i ≡ true → parse_image (image_numbers i) ≡ some i
+  parsed : (i : Image) → TypedImage i → image_ok l i ≡ true → parse_image (image_numbers i) ≡ Some i
   parsed i t ok =
       let f = image_facts l i ok in
       let g = i.settings.engine in
@@ -113,9 +112,9 @@ module _ (l : Limits) (sane : Sane l) where
       let s = tally_numbers i.seconds in
       let len : length c ≡ tally_fields = length_tally i.checks t.0.cells in
       rw (engine_letter g)
-      (ap (λ r. some (with_tallies r (tally_of (take tally_fields (c ++ s))) (tally_of (drop tally_fields (c ++ s)))))
+      (ap (λ r. Some (with_tallies r (tally_of (take tally_fields (c ++ s))) (tally_of (drop tally_fields (c ++ s)))))
       (log.of_numbers l sane (image_log i) f.log)
-      ∙ ap₂ (λ x y. some (with_tallies (image_log i) x y))
+      ∙ ap₂ (λ x y. Some (with_tallies (image_log i) x y))
       (ap tally_of (take_at c s tally_fields len) ∙ tally_back i.checks t.0 (known_cells false g i.settings.n i.checks f.checks t.0))
       (ap tally_of (drop_at c s tally_fields len) ∙ tally_back i.seconds t.1 (known_cells (is_b g) g i.settings.n i.seconds f.seconds t.1)))
 
@@ -145,7 +144,7 @@ module _ (l : Limits) (sane : Sane l) where
         back = λ vs i len e. made (λ i. image_numbers i ≡ vs) image_of vs i (get_or vs 0 0) (λ g p. numbers_image g vs len p) e;
       }
 
-  pub image_round_trip : RoundTrip TypedImage (image_ok l) (number_of Refusal.Image) (image_size l) (read_image l) (write_image l)
+  pub image_round_trip : RoundTrip TypedImage (image_ok l) (number_of (Some Refusal.Image)) (image_size l) (read_image l) (write_image l)
   unfolding read_image write_image
   image_round_trip = round_trip (image_format l) TypedImage lawful _
 

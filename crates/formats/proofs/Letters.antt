@@ -1,10 +1,10 @@
 -- Letters and estimates as numbers, there and back. Assumes nothing.
+use Rattle.std.specs.Prelude.{Option, Some, None}
 use mathlib.Core.Path.{◌≡◌, refl, sym}
 use mathlib.Core.Bool.{Bool, true, false, cond}
 use mathlib.Core.List.{List, [], ◌∷◌}
 use Prim.Native.Nat.{ℕ, zero, suc, ◌<◌, ◌^◌}
 use native.Mathlib.Omega.{arith}
-use mathlib.Core.Option.{some}
 use lib.Dec.{eqb}
 use lib.ListN.{length, get_or}
 use borrow.Author.Tests.{ne_eqb, eqb-true}
@@ -20,10 +20,8 @@ use Rattle.contents.specs.declared.Kind.{Kind}
 use Rattle.contents.specs.declared.Kind.TheVariants.{Empty, First, Check, Second, Skip}
 use Rattle.contents.proofs.Facts.{Known}
 use Rattle.formats.specs.Codes.{letter_of, engine_of, with_engine, kind_letter, kind_of, code_of, estimate_of}
-use Rattle.formats.specs.declared.EngineRead.{EngineRead}
-use Rattle.formats.specs.declared.KindRead.{KindRead}
 
-pub engine_letter : (e : Engine) → engine_of (letter_of e) ≡ EngineRead.Is e
+pub engine_letter : (e : Engine) → engine_of (letter_of e) ≡ Some e
 engine_letter B = refl
 engine_letter R = refl
 
@@ -31,26 +29,26 @@ pub letter_fits : (e : Engine) → letter_of e < 256 ^ 1
 letter_fits B = omega arith
 letter_fits R = omega arith
 
-pub letter_engine : (x : ℕ) (e : Engine) → engine_of x ≡ EngineRead.Is e → letter_of e ≡ x
+pub letter_engine : (x : ℕ) (e : Engine) → engine_of x ≡ Some e → letter_of e ≡ x
 letter_engine x e h = go (eqb x (letter_of B)) (eqb x (letter_of R)) refl refl h
   where
     go : (t u : Bool) → eqb x (letter_of B) ≡ t → eqb x (letter_of R) ≡ u
-        → cond t (EngineRead.Is B) (cond u (EngineRead.Is R) EngineRead.Unknown) ≡ EngineRead.Is e → letter_of e ≡ x
+        → cond t (Some B) (cond u (Some R) None) ≡ Some e → letter_of e ≡ x
     go true u p q r = let i : B ≡ e = cc in rw (← i) (sym (eqb-true _ _ p))
     go false true p q r = let i : R ≡ e = cc in rw (← i) (sym (eqb-true _ _ q))
     go false false p q r = never cc
 
 -- what holds of the contents that each engine makes of numbers holds of those that were made
 pub made : {A : Type 0} (P : A → Type 0) (make : Engine → List ℕ → A) (vs : List ℕ) (a : A) (x : ℕ)
-    → ((e : Engine) → engine_of x ≡ EngineRead.Is e → P (make e vs)) → with_engine make (engine_of x) vs ≡ some a → P a
+    → ((e : Engine) → engine_of x ≡ Some e → P (make e vs)) → with_engine make (engine_of x) vs ≡ Some a → P a
 made P make vs a x f h = go (engine_of x) refl h
   where
-    go : (o : EngineRead) → engine_of x ≡ o → with_engine make o vs ≡ some a → P a
-    go (EngineRead.Is e) p h = let same : make e vs ≡ a = cc in rw (← same) (f e p)
-    go EngineRead.Unknown p h = never cc
+    go : (o : Option Engine) → engine_of x ≡ o → with_engine make o vs ≡ Some a → P a
+    go (Some e) p h = let same : make e vs ≡ a = cc in rw (← same) (f e p)
+    go None p h = never cc
 
 -- a kind's letter is read as the kind, unless it is the empty message's
-pub kind_letter_lem : (k : Kind) → (k ≡ Empty → ⊥) → kind_of (kind_letter k) ≡ KindRead.Is k
+pub kind_letter_lem : (k : Kind) → (k ≡ Empty → ⊥) → kind_of (kind_letter k) ≡ Some k
 kind_letter_lem Empty n = absurd (n refl)
 kind_letter_lem First n = refl
 kind_letter_lem Check n = refl
@@ -64,12 +62,12 @@ kind_fits Check = omega arith
 kind_fits Second = omega arith
 kind_fits Skip = omega arith
 
-pub letter_kind : (x : ℕ) (k : Kind) → kind_of x ≡ KindRead.Is k → kind_letter k ≡ x
+pub letter_kind : (x : ℕ) (k : Kind) → kind_of x ≡ Some k → kind_letter k ≡ x
 letter_kind x k h = go (eqb x (kind_letter First)) (eqb x (kind_letter Check)) (eqb x (kind_letter Second)) (eqb x (kind_letter Skip)) refl refl refl refl h
   where
     go : (t u v w : Bool) → eqb x (kind_letter First) ≡ t → eqb x (kind_letter Check) ≡ u → eqb x (kind_letter Second) ≡ v → eqb x
         (kind_letter Skip) ≡ w
-        → cond t (KindRead.Is First) (cond u (KindRead.Is Check) (cond v (KindRead.Is Second) (cond w (KindRead.Is Skip) KindRead.Unknown))) ≡ KindRead.Is k
+        → cond t (Some First) (cond u (Some Check) (cond v (Some Second) (cond w (Some Skip) None))) ≡ Some k
         → kind_letter k ≡ x
     go true u v w p q r s e = let i : First ≡ k = cc in rw (← i) (sym (eqb-true _ _ p))
     go false true v w p q r s e = let i : Check ≡ k = cc in rw (← i) (sym (eqb-true _ _ q))

@@ -1,4 +1,5 @@
 -- A log's format is lawful. Assumes nothing.
+use Rattle.std.specs.Prelude.{Some}
 use Prim.Native.Nat.{ℕ, ◌<◌, ◌^◌}
 use mathlib.Core.Path.{◌≡◌, refl}
 use mathlib.Core.Bool.{true}
@@ -17,14 +18,13 @@ use Rattle.formats.specs.Codes.{engine_of}
 use Rattle.formats.specs.Formats.{with_zero}
 use Rattle.formats.specs.Logs.{log_widths, log_zero, log_numbers, log_of, log_format, read_log, write_log}
 use Rattle.formats.specs.RoundTrip.{RoundTrip}
-use Rattle.formats.specs.declared.EngineRead.TheVariants.{Is}
 use Rattle.formats.proofs.Letters.{engine_letter, letter_fits, letter_engine, made, code_estimate, estimate_code, code_fits, spread_whole}
 use Rattle.formats.proofs.RoundTrips.{LawfulFormat, round_trip}
 use Rattle.formats.proofs.Packed.{Fit}
 use Rattle.formats.proofs.Steps.{write_kept}
 
 -- the numbers of a log that was made of eight numbers
-pub numbers_of_lem : (e : Engine) (vs : List ℕ) → length vs ≡ log_fields → engine_of (get_or vs 0 0) ≡ Is e → log_numbers (log_of e vs) ≡ vs
+pub numbers_of_lem : (e : Engine) (vs : List ℕ) → length vs ≡ log_fields → engine_of (get_or vs 0 0) ≡ Some e → log_numbers (log_of e vs) ≡ vs
 numbers_of_lem e vs len p =
     rw (letter_engine (get_or vs 0 0) e p, code_estimate (get_or vs 5 0), code_estimate (get_or vs 6 0), code_estimate (get_or vs 7 0))
     (spread_whole log_fields vs len)
@@ -89,7 +89,7 @@ module _ (l : Limits) (sane : Sane l) where
         back = λ vs r len e. made (λ r. log_numbers r ≡ vs) log_of vs r (get_or vs 0 0) (λ g p. numbers_of_lem g vs len p) e;
       }
 
-  pub log_round_trip : RoundTrip (λ r. Unit) (log_ok l) (number_of Refusal.Log) (log_size l) (read_log l) (write_log l)
+  pub log_round_trip : RoundTrip (λ r. Unit) (log_ok l) (number_of (Some Refusal.Log)) (log_size l) (read_log l) (write_log l)
   unfolding read_log write_log
   log_round_trip = round_trip (log_format l) (λ r. Unit) lawful _
 

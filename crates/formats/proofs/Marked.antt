@@ -1,7 +1,7 @@
 -- Tallies with every unmarked place blank: a well-formed one is so already. Assumes nothing.
 use Prim.Native.Nat.{ℕ, zero, suc, ◌+◌, ◌-◌, ◌<◌, ◌≤◌}
 use mathlib.Core.Path.{◌≡◌, refl, sym, ap, ap₂, ◌∙◌}
-use mathlib.Core.Bool.{Bool, true, false, cond, and-true}
+use mathlib.Core.Bool.{Bool, true, false, cond}
 use mathlib.Core.List.{List, ◌∷◌}
 use native.Mathlib.Numerals.{add-one}
 use native.Mathlib.Omega.{arith}
@@ -13,11 +13,9 @@ use Rattle.tally.specs.declared.Engine.{Engine}
 use Rattle.tally.specs.declared.Estimate.{Estimate}
 use Rattle.tally.specs.declared.Estimate.TheVariants.{Blank, Split, Mileage}
 use Rattle.tally.specs.declared.Tally.{Tally}
-use Rattle.tally.proofs.Marks.{unmarked_none}
 use Rattle.tally.proofs.Never.{never}
 use Rattle.tally.proofs.Tallies.{held_unmarked}
-use Rattle.contents.specs.Estimates.{is_blank}
-use Rattle.contents.specs.Images.{every, unmarked_ok, cell_ok, cells_ok}
+use Rattle.contents.specs.Images.{unmarked_ok}
 use Rattle.contents.proofs.Facts.{TallyFacts}
 use Rattle.formats.specs.InnerImages.{held_from, as_marked}
 use Rattle.formats.proofs.Packed.{drop_step}
@@ -77,24 +75,3 @@ module _ (l : Limits) (split : Bool) (g : Engine) (n : ℕ) (t : Tally) (f : Tal
 
   pub as_marked_lem : as_marked t ≡ t
   as_marked_lem = ap (λ (cs : List Cell). record { marks = t.marks; cells = cs }) (all_held senders 0 refl)
-
--- ---- places that are not marked
-
--- an unmarked place is tested alone
-pub unmarked_place : (l : Limits) (split : Bool) (n s : ℕ) (e : Estimate) → cell_ok l split n s false e ≡ is_blank e
-unfolding cell_ok
-unmarked_place l split n s e = and-true (is_blank e)
-
-every_alike : (k : ℕ) (P Q : ℕ → Bool) → ((s : ℕ) → s < k → P s ≡ Q s) → every k P ≡ every k Q
-unfolding every
-every_alike zero P Q same = refl
-every_alike (suc k) P Q same = rw (every_alike k P Q (λ s b. same s (omega arith)), same k (omega arith))
-
--- a tally without marks is well formed where each place is blank
-pub blank_places : (l : Limits) (split : Bool) (n : ℕ) (t : Tally) (Q : ℕ → Bool) → t.marks ≡ 0
-    → ((s : ℕ) → s < senders → Q s ≡ is_blank (estimate_at t s)) → every senders Q ≡ cells_ok l split n t
-unfolding cells_ok
-blank_places l split n t Q none same =
-    every_alike senders Q _
-    (λ s b. same s b ∙ sym (ap (λ (m : Bool). cell_ok l split n s m (estimate_at t s)) (ap (λ (x : ℕ). is_marked x s) none ∙ unmarked_none s)
-    ∙ unmarked_place l split n s (estimate_at t s)))

@@ -1,9 +1,9 @@
 -- A message's format is lawful. Assumes nothing.
+use Rattle.std.specs.Prelude.{Option, Some, None}
 use Prim.Native.Nat.{ℕ, ◌<◌, ◌^◌}
 use mathlib.Core.Path.{◌≡◌, refl}
 use mathlib.Core.Bool.{true}
 use mathlib.Core.List.{List}
-use mathlib.Core.Option.{some}
 use native.Mathlib.Omega.{arith}
 use lib.ListN.{length, get_or}
 use Rattle.tally.specs.Limits.{Limits, message_size, message_fields, Sane}
@@ -18,18 +18,15 @@ use Rattle.contents.proofs.Facts.{message_facts}
 use Rattle.tally.proofs.Never.{never}
 use Rattle.formats.specs.Codes.{engine_of, kind_of}
 use Rattle.formats.specs.Formats.{with_zero}
-use Rattle.formats.specs.Messages.{cleared, message_widths, message_zero, message_numbers, message_of}
-use Rattle.formats.specs.Messages.{letters_read, parse_message, message_format, read_message, write_message}
+use Rattle.formats.specs.Messages.{cleared, message_widths, message_zero, message_numbers, message_of, letters_read, parse_message, message_format}
+use Rattle.formats.specs.Messages.{read_message, write_message}
 use Rattle.formats.specs.RoundTrip.{RoundTrip}
-use Rattle.formats.specs.declared.EngineRead.{EngineRead}
-use Rattle.formats.specs.declared.EngineRead.TheVariants.{Is, Unknown}
-use Rattle.formats.specs.declared.KindRead.{KindRead}
-use Rattle.formats.specs.declared.KindRead.TheVariants.{Is as KindIs, Unknown as KindUnknown}
-use Rattle.formats.proofs.Letters.{engine_letter, letter_fits, letter_engine, kind_letter_lem, kind_fits, letter_kind, code_estimate, estimate_code}
-use Rattle.formats.proofs.Letters.{code_fits, spread_whole}
+use Rattle.formats.proofs.Letters.{engine_letter, letter_fits, letter_engine, kind_letter_lem, kind_fits, letter_kind, code_estimate, estimate_code, code_fits}
+use Rattle.formats.proofs.Letters.{spread_whole}
 use Rattle.formats.proofs.RoundTrips.{LawfulFormat, round_trip}
 use Rattle.formats.proofs.Packed.{Fit}
 use Rattle.formats.proofs.Steps.{write_kept}
+use Rattle.tally.specs.declared.Engine.{Engine}
 
 -- no well-formed message is empty
 not_empty : (l : Limits) (k : Kind) (m : Message) → kind_ok l k m ≡ true → k ≡ Empty → ⊥
@@ -87,7 +84,7 @@ module _ (l : Limits) (sane : Sane l) where
         back = λ vs m len e. back vs m len (kind_of (get_or vs 0 0)) (engine_of (get_or vs 1 0)) refl refl e;
       }
     where
-      parsed : (m : Message) → message_ok l m ≡ true → parse_message (message_numbers m) ≡ some m
+      parsed : (m : Message) → message_ok l m ≡ true → parse_message (message_numbers m) ≡ Some m
       parsed m ok =
           let f = message_facts l m ok in
           rw (
@@ -97,17 +94,17 @@ module _ (l : Limits) (sane : Sane l) where
             estimate_code l sane m.proposal f.fields.proposal,
           )
 
-      back : (vs : List ℕ) (m : Message) → length vs ≡ message_fields → (a : KindRead) (o : EngineRead)
-          → kind_of (get_or vs 0 0) ≡ a → engine_of (get_or vs 1 0) ≡ o → letters_read a o vs ≡ some m → message_numbers m ≡ vs
-      back vs m len (KindIs k) (Is e) p q h =
+      back : (vs : List ℕ) (m : Message) → length vs ≡ message_fields → (a : Option Kind) (o : Option Engine)
+          → kind_of (get_or vs 0 0) ≡ a → engine_of (get_or vs 1 0) ≡ o → letters_read a o vs ≡ Some m → message_numbers m ≡ vs
+      back vs m len (Some k) (Some e) p q h =
           let same : message_of k e vs ≡ m = cc in
           rw (← same)
           (rw (letter_kind (get_or vs 0 0) k p, letter_engine (get_or vs 1 0) e q, code_estimate (get_or vs 7 0), code_estimate (get_or vs 8 0))
           (spread_whole message_fields vs len))
-      back vs m len (KindIs k) Unknown p q h = never cc
-      back vs m len KindUnknown o p q h = never cc
+      back vs m len (Some k) None p q h = never cc
+      back vs m len None o p q h = never cc
 
-  pub message_round_trip : RoundTrip (λ m. Unit) (message_ok l) (number_of Refusal.Message) (message_size l) (read_message l) (write_message l)
+  pub message_round_trip : RoundTrip (λ m. Unit) (message_ok l) (number_of (Some Refusal.Message)) (message_size l) (read_message l) (write_message l)
   unfolding read_message write_message
   message_round_trip = round_trip (message_format l) (λ m. Unit) lawful _
 

@@ -1,8 +1,8 @@
 -- An image's bytes as its parts, one after the other: what is read at a part's place, and what a write there leaves. Assumes nothing.
+use Rattle.std.specs.Prelude.{Some, None}
 use Prim.Native.Nat.{ℕ, zero, suc, ◌+◌, ◌*◌, ◌^◌, ◌<◌}
 use mathlib.Core.Path.{◌≡◌, refl, sym, ap, ◌∙◌}
 use mathlib.Core.Bool.{Bool, true, false, cond, ◌&&◌}
-use mathlib.Core.Option.{some}
 use mathlib.Core.List.{List, [], ◌∷◌, ◌++◌, map, append_assoc, append-nil}
 use native.Mathlib.Omega.{arith}
 use lib.Dec.{eqb}
@@ -25,7 +25,6 @@ use Rattle.contents.proofs.Facts.{TallyFacts, image_facts}
 use Rattle.contents.proofs.Tests.{both_true}
 use Rattle.formats.specs.Codes.{letter_of, code_of, estimate_of}
 use Rattle.formats.specs.Formats.{reading, checked, with_zero}
-use Rattle.formats.specs.declared.StateRead.{StateRead}
 use Rattle.formats.specs.Images.{TypedImage, cell_of, cell_code, cell_widths, tally_widths, tally_of, tally_numbers, with_tallies, image_widths, image_numbers}
 use Rattle.formats.specs.Images.{image_format, image_bytes, no_image}
 use Rattle.formats.specs.InnerImages.{tally_at, fit_state, checks_at, seconds_at, in_image, as_marked, tally_from, state_over, tally_over, image_over}
@@ -63,12 +62,12 @@ estimate_at_lem o k bs h = rw (cell_at senders k (o + 2) bs h)
 -- ---- an image that is tested where it stands
 
 pub fit_checked : (i : Image) (log : Log)
-    → fit_state (checked (image_format today) (some i)) log ≡ cond (image_ok today i && fits i log) (StateRead.Fits i.state) StateRead.Unfit
+    → fit_state (checked (image_format today) (Some i)) log ≡ cond (image_ok today i && fits i log) (Some i.state) None
 unfolding fit_state
 fit_checked i log = go (image_ok today i)
   where
-    go : (b : Bool) → fit_state (cond b (reading 0 i) (reading (number_of Refusal.Image) no_image)) log
-        ≡ cond (b && fits i log) (StateRead.Fits i.state) StateRead.Unfit
+    go : (b : Bool) → fit_state (cond b (reading 0 i) (reading (number_of (Some Refusal.Image)) no_image)) log
+        ≡ cond (b && fits i log) (Some i.state) None
     go true = refl
     go false = refl
 

@@ -1,16 +1,16 @@
 -- Both round trips, of any format whose fields obey the laws of `LawfulFormat`. Assumes nothing.
+use Rattle.std.specs.Prelude.{Option, Some, None}
 use Prim.Native.Nat.{ℕ, suc, ◌≤◌, ◌<◌}
 use mathlib.Core.Path.{◌≡◌, refl, sym, ap, ◌∙◌}
 use mathlib.Core.Bool.{Bool, true, false, cond}
 use mathlib.Core.List.{List, [], ◌∷◌, ◌++◌}
-use mathlib.Core.Option.{Option, none, some}
 use native.Mathlib.Omega.{arith}
 use lib.Dec.{eqb}
 use lib.ListN.{length, get_or, take, drop, length-append, length-drop, take-append-drop}
 use lib.Seq.{take_at, drop_at, get_or_at, split_at, append_snoc, length-take-le}
 use borrow.Author.Tests.{ne_eqb, eqb-true}
-use Rattle.formats.specs.Formats.{ReadAnswer, reading, WriteAnswer, wrote, Format, with_zero, without, numbers_in, zero_byte, checked, from_numbers}
-use Rattle.formats.specs.Formats.{read_bytes, to_bytes, write_bytes}
+use Rattle.formats.specs.Formats.{ReadAnswer, reading, WriteAnswer, wrote, Format, with_zero, without, numbers_in, zero_byte, checked, from_numbers, read_bytes}
+use Rattle.formats.specs.Formats.{to_bytes, write_bytes}
 use Rattle.formats.specs.Numbers.{Bytes, unpack, pack}
 use Rattle.formats.specs.RoundTrip.{RoundTrip}
 use Rattle.tally.specs.Refusal.{number_of}
@@ -56,8 +56,8 @@ pub record LawfulFormat {A : Type 0} (f : Format A) (Typed : A → Type 0) : Typ
   pub unread : f.ok f.nothing ≡ false
   pub each : (a : A) → Typed a → length (f.numbers a) ≡ f.fields
   pub fit : (a : A) → Typed a → f.ok a ≡ true → Fit f.widths (with_zero f.zero_at (f.numbers a))
-  pub parsed : (a : A) → Typed a → f.ok a ≡ true → f.parse (f.numbers a) ≡ some a
-  pub back : (vs : List ℕ) (a : A) → length vs ≡ f.fields → f.parse vs ≡ some a → f.numbers a ≡ vs
+  pub parsed : (a : A) → Typed a → f.ok a ≡ true → f.parse (f.numbers a) ≡ Some a
+  pub back : (vs : List ℕ) (a : A) → length vs ≡ f.fields → f.parse vs ≡ Some a → f.numbers a ≡ vs
 
 module _ {A : Type 0} (f : Format A) (Typed : A → Type 0) (law : LawfulFormat f Typed) where
   -- ---- numbers
@@ -67,15 +67,15 @@ module _ {A : Type 0} (f : Format A) (Typed : A → Type 0) (law : LawfulFormat 
   from_numbers_lem a t ok = rw (law.parsed a t ok, ok)
 
   -- what is read from numbers is well formed, and what they were parsed as
-  from_parsed : (vs : List ℕ) (a : A) → from_numbers f vs ≡ reading 0 a → (f.ok a ≡ true) × (f.parse vs ≡ some a)
+  from_parsed : (vs : List ℕ) (a : A) → from_numbers f vs ≡ reading 0 a → (f.ok a ≡ true) × (f.parse vs ≡ Some a)
   from_parsed vs a e = go (f.parse vs) refl e
     where
-      go : (o : Option A) → f.parse vs ≡ o → checked f o ≡ reading 0 a → (f.ok a ≡ true) × (f.parse vs ≡ some a)
-      go none p e = absurd (law.refuses (ap (λ (r : ReadAnswer A). r.number) e))
-      go (some b) p e = by (f.ok b) refl e
+      go : (o : Option A) → f.parse vs ≡ o → checked f o ≡ reading 0 a → (f.ok a ≡ true) × (f.parse vs ≡ Some a)
+      go None p e = absurd (law.refuses (ap (λ (r : ReadAnswer A). r.number) e))
+      go (Some b) p e = by (f.ok b) refl e
         where
           by : (t : Bool) → f.ok b ≡ t → cond t (reading 0 b) (reading f.malformed f.nothing) ≡ reading 0 a → (f.ok a ≡ true) ×
-              (f.parse vs ≡ some a)
+              (f.parse vs ≡ Some a)
           by true ok e = let same : b ≡ a = ap (λ (r : ReadAnswer A). r.contents) e in rw (← same) (ok, p)
           by false ok e = absurd (law.refuses (ap (λ (r : ReadAnswer A). r.number) e))
 
@@ -110,11 +110,11 @@ module _ {A : Type 0} (f : Format A) (Typed : A → Type 0) (law : LawfulFormat 
   passed bs a e = go (eqb (length bs) f.size) (eqb (zero_byte f bs) 0) refl refl e
     where
       go : (t u : Bool) → eqb (length bs) f.size ≡ t → eqb (zero_byte f bs) 0 ≡ u
-          → cond t (cond u (from_numbers f (numbers_in f bs)) (reading f.malformed f.nothing)) (reading (number_of Length) f.nothing) ≡ reading 0 a
+          → cond t (cond u (from_numbers f (numbers_in f bs)) (reading f.malformed f.nothing)) (reading (number_of (Some Length)) f.nothing) ≡ reading 0 a
           → Passed bs a
       go true true len z e = record { size = eqb-true _ _ len; zero_byte_lem = eqb-true _ _ z; numbers = e }
       go true false len z e = absurd (law.refuses (ap (λ (r : ReadAnswer A). r.number) e))
-      go false u len z e = let one : number_of Length ≡ 0 = ap (λ (r : ReadAnswer A). r.number) e in absurd (omega arith)
+      go false u len z e = let one : number_of (Some Length) ≡ 0 = ap (λ (r : ReadAnswer A). r.number) e in absurd (omega arith)
 
   -- the zero byte has its place among the numbers, and the other numbers are the fields
   in_widths : (bs : List ℕ) → f.zero_at < length (unpack 0 f.widths bs)
@@ -128,7 +128,7 @@ module _ {A : Type 0} (f : Format A) (Typed : A → Type 0) (law : LawfulFormat 
   read_fields bs a e = numbers_back (numbers_in f bs) a (length_numbers bs) (passed bs a e).numbers
 
   -- and is what they were parsed as
-  pub read_parsed : (bs : List ℕ) (a : A) → read_bytes f bs ≡ reading 0 a → f.parse (numbers_in f bs) ≡ some a
+  pub read_parsed : (bs : List ℕ) (a : A) → read_bytes f bs ≡ reading 0 a → f.parse (numbers_in f bs) ≡ Some a
   read_parsed bs a e = (from_parsed (numbers_in f bs) a (passed bs a e).numbers).1
 
   -- writing what was read gives the bytes

@@ -1,4 +1,5 @@
 -- Reading and writing, one law a branch. Assumes nothing.
+use Rattle.std.specs.Prelude.{Option, Some, None}
 use Prim.Native.Nat.{ℕ}
 use mathlib.Core.Path.{◌≡◌, refl, ap}
 use mathlib.Core.Bool.{Bool, true, false, cond}
@@ -14,12 +15,10 @@ use Rattle.formats.specs.Codes.{engine_of, with_engine}
 use Rattle.formats.specs.Formats.{reading, wrote, Format, with_zero, numbers_in, zero_byte, checked, from_numbers, read_bytes, to_bytes, write_bytes}
 use Rattle.formats.specs.InnerNumbers.{pack_into, total}
 use Rattle.formats.specs.InnerFormats.{stored}
-use Rattle.formats.specs.declared.EngineRead.{EngineRead}
-use Rattle.formats.specs.declared.EngineRead.TheVariants.{Unknown}
 use Rattle.formats.proofs.Packed.{pack_into_eq}
 
 module _ {A : Type 0} (f : Format A) (bs : List ℕ) where
-  pub read_length : (length bs ≡ f.size → ⊥) → read_bytes f bs ≡ reading (number_of Length) f.nothing
+  pub read_length : (length bs ≡ f.size → ⊥) → read_bytes f bs ≡ reading (number_of (Some Length)) f.nothing
   read_length n = rw (ne_eqb (length bs) f.size n)
 
   pub read_numbers_in : length bs ≡ f.size → zero_byte f bs ≡ 0 → read_bytes f bs ≡ from_numbers f (numbers_in f bs)
@@ -28,12 +27,12 @@ module _ {A : Type 0} (f : Format A) (bs : List ℕ) where
   -- formats that begin with an engine's letter: it is unknown also where the zero byte is not 0
   module _ (make : Engine → List ℕ → A) (letters : (vs : List ℕ) → f.parse vs ≡ with_engine make (engine_of (get_or vs 0 0)) vs)
       (size : length bs ≡ f.size) where
-    pub read_engine : (o : EngineRead) → cond (eqb (zero_byte f bs) 0) (engine_of (get_or (numbers_in f bs) 0 0)) Unknown ≡ o
+    pub read_engine : (o : Option Engine) → cond (eqb (zero_byte f bs) 0) (engine_of (get_or (numbers_in f bs) 0 0)) None ≡ o
         → read_bytes f bs ≡ checked f (with_engine make o (numbers_in f bs))
     read_engine o h = rw (eq-eqb (length bs) f.size size, ← h) (go (eqb (zero_byte f bs) 0))
       where
         go : (t : Bool) → cond t (from_numbers f (numbers_in f bs)) (reading f.malformed f.nothing)
-            ≡ checked f (with_engine make (cond t (engine_of (get_or (numbers_in f bs) 0 0)) Unknown) (numbers_in f bs))
+            ≡ checked f (with_engine make (cond t (engine_of (get_or (numbers_in f bs) 0 0)) None) (numbers_in f bs))
         go true = ap (checked f) (letters (numbers_in f bs))
         go false = refl
 
@@ -47,8 +46,8 @@ module _ {A : Type 0} (f : Format A) (bs : List ℕ) where
   pub write_kept : (a : A) (kept : List ℕ) → ((write_bytes f a kept bs).number ≡ 0 → ⊥) → (write_bytes f a kept bs).out ≡ kept
   write_kept a kept = go (eqb (length bs) f.size) (f.ok a)
     where
-      go : (s t : Bool) → ((cond s (cond t (wrote 0 (to_bytes f a)) (wrote f.malformed kept)) (wrote (number_of Length) kept)).number ≡ 0 → ⊥)
-          → (cond s (cond t (wrote 0 (to_bytes f a)) (wrote f.malformed kept)) (wrote (number_of Length) kept)).out ≡ kept
+      go : (s t : Bool) → ((cond s (cond t (wrote 0 (to_bytes f a)) (wrote f.malformed kept)) (wrote (number_of (Some Length)) kept)).number ≡ 0 → ⊥)
+          → (cond s (cond t (wrote 0 (to_bytes f a)) (wrote f.malformed kept)) (wrote (number_of (Some Length)) kept)).out ≡ kept
       go true true n = absurd (n refl)
       go true false n = refl
       go false t n = refl

@@ -1,6 +1,5 @@
 -- Reading and writing contents as a list of numbers, one of which is a zero byte. Assumes nothing.
-use Rattle.std.specs.Prelude.{ℕ, suc, Bool, cond, List, ◌∷◌, ◌++◌, eqb, length, get_or, take, drop}
-use Rattle.std.proofs.Math.Option.{Option, none, some}
+use Rattle.std.specs.Prelude.{ℕ, suc, Bool, cond, List, ◌∷◌, ◌++◌, eqb, length, get_or, take, drop, Option, Some, None}
 use Rattle.tally.specs.Refusal.{number_of}
 use Rattle.tally.specs.declared.Refusal.TheVariants.{Length}
 use Rattle.formats.specs.Numbers.{unpack, pack}
@@ -51,8 +50,8 @@ numbers_in f bs = without f.zero_at (unpack 0 f.widths bs)
 
 -- contents are taken where they are known and well formed
 abbrev pub checked : {A : Type 0} → Format A → Option A → ReadAnswer A
-checked f none = reading f.malformed f.nothing
-checked f (some a) = cond (f.ok a) (reading 0 a) (reading f.malformed f.nothing)
+checked f None = reading f.malformed f.nothing
+checked f (Some a) = cond (f.ok a) (reading 0 a) (reading f.malformed f.nothing)
 
 -- contents from their numbers
 abbrev pub from_numbers : {A : Type 0} → Format A → List ℕ → ReadAnswer A
@@ -67,7 +66,7 @@ abbrev pub read_bytes : {A : Type 0} → Format A → List ℕ → ReadAnswer A
 read_bytes f bs =
     cond (eqb (length bs) f.size)
     (cond (eqb (zero_byte f bs) 0) (from_numbers f (numbers_in f bs)) (reading f.malformed f.nothing))
-    (reading (number_of Length) f.nothing)
+    (reading (number_of (Some Length)) f.nothing)
 
 -- the bytes of contents
 abbrev pub to_bytes : {A : Type 0} → Format A → A → List ℕ
@@ -76,4 +75,4 @@ to_bytes f a = pack f.widths (with_zero f.zero_at (f.numbers a))
 -- writing a to a buffer that holds bs: refused as reading would, and then `left` stands there
 abbrev pub write_bytes : {A : Type 0} → Format A → A → List ℕ → List ℕ → WriteAnswer
 write_bytes f a left bs =
-    cond (eqb (length bs) f.size) (cond (f.ok a) (wrote 0 (to_bytes f a)) (wrote f.malformed left)) (wrote (number_of Length) left)
+    cond (eqb (length bs) f.size) (cond (f.ok a) (wrote 0 (to_bytes f a)) (wrote f.malformed left)) (wrote (number_of (Some Length)) left)

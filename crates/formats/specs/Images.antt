@@ -1,6 +1,5 @@
 -- The bytes of an image. Assumes nothing.
-use Rattle.std.specs.Prelude.{ℕ, ◌+◌, List, ◌∷◌, ◌++◌, map, length, get_or, take, drop, replicate}
-use Rattle.std.proofs.Math.Option.{Option}
+use Rattle.std.specs.Prelude.{ℕ, ◌+◌, List, ◌∷◌, ◌++◌, map, length, get_or, take, drop, replicate, Option, Some}
 use Rattle.tally.specs.Limits.{Limits, image_size, log_fields, senders}
 use Rattle.tally.specs.Refusal.{number_of}
 use Rattle.tally.specs.Tally.{Typed, no_marks}
@@ -75,7 +74,7 @@ image_format l =
       numbers = image_numbers;
       parse = parse_image;
       ok = image_ok l;
-      malformed = number_of Refusal.Image;
+      malformed = number_of (Some Refusal.Image);
       nothing = no_image;
     }
 

@@ -1,5 +1,5 @@
 -- What inner functions promise, of which no public call's contract speaks. Assumes nothing.
-use Rattle.std.specs.Prelude.{ℕ, zero, suc, ◌+◌, Bool, cond, ◌&&◌, eqb, List, [], ◌∷◌, length}
+use Rattle.std.specs.Prelude.{ℕ, zero, suc, ◌+◌, Bool, cond, ◌&&◌, eqb, List, [], ◌∷◌, length, Option, Some, None}
 use Rattle.tally.specs.Limits.{today, log_size, image_size, senders}
 use Rattle.tally.specs.Tally.{held, no_marks}
 use Rattle.tally.specs.declared.Cell.{Cell}
@@ -13,7 +13,6 @@ use Rattle.formats.specs.InnerLogs.{settings_widths, state_widths, state_numbers
 use Rattle.formats.specs.Numbers.{num_at, unpack}
 use Rattle.formats.specs.InnerNumbers.{pack_into, total}
 use Rattle.formats.specs.Images.{tally_widths, tally_numbers, tally_of}
-use Rattle.formats.specs.declared.StateRead.{StateRead}
 
 -- where the tallies stand, and the tally at a place
 abbrev pub checks_at : ℕ
@@ -26,8 +25,8 @@ abbrev pub tally_at : ℕ → List ℕ → Tally
 tally_at o bs = tally_of (unpack o tally_widths bs)
 
 -- the state of an image that was read and fits the log
-unfoldable pub fit_state : ReadAnswer Image → Log → StateRead
-fit_state r l = cond (eqb r.number 0 && fits r.contents l) (StateRead.Fits r.contents.state) StateRead.Unfit
+unfoldable pub fit_state : ReadAnswer Image → Log → Option State
+fit_state r l = cond (eqb r.number 0 && fits r.contents l) (Some r.contents.state) None
 
 -- the k estimates from the sender s on, blank where it is not marked
 unfoldable pub held_from : Tally → ℕ → ℕ → List Cell

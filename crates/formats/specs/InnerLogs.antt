@@ -1,17 +1,17 @@
 -- What inner functions promise, of which no public call's contract speaks. Assumes nothing.
-use Rattle.std.specs.Prelude.{ℕ, cond, List, [], ◌∷◌, eqb}
+use Rattle.std.specs.Prelude.{ℕ, cond, List, [], ◌∷◌, eqb, Option, None}
 use Rattle.tally.specs.Limits.{Limits, today}
 use Rattle.contents.specs.declared.State.{State}
 use Rattle.formats.specs.Codes.{engine_of, code_of}
 use Rattle.formats.specs.Formats.{numbers_in}
-use Rattle.formats.specs.declared.EngineRead.{EngineRead}
 use Rattle.formats.specs.Numbers.{num_at}
 use Rattle.formats.specs.Logs.{log_zero, log_format}
 use Rattle.formats.specs.InnerNumbers.{total}
+use Rattle.tally.specs.declared.Engine.{Engine}
 
 -- the engine of a log or an image, unknown also where the zero byte is not 0
-abbrev pub engine_at : List ℕ → EngineRead
-engine_at bs = cond (eqb (num_at bs log_zero 1) 0) (engine_of (num_at bs 0 1)) EngineRead.Unknown
+abbrev pub engine_at : List ℕ → Option Engine
+engine_at bs = cond (eqb (num_at bs log_zero 1) 0) (engine_of (num_at bs 0 1)) None
 
 -- a log's settings with the zero, and its state
 abbrev pub settings_widths : List ℕ

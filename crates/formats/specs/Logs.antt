@@ -1,6 +1,5 @@
 -- The bytes of a log. Assumes nothing.
-use Rattle.std.specs.Prelude.{ℕ, List, [], ◌∷◌, get_or}
-use Rattle.std.proofs.Math.Option.{Option}
+use Rattle.std.specs.Prelude.{ℕ, List, [], ◌∷◌, get_or, Option, Some, Result, Ok, Err}
 use Rattle.tally.specs.Limits.{Limits, log_size, log_fields}
 use Rattle.tally.specs.Refusal.{number_of}
 use Rattle.tally.specs.declared.Engine.{Engine}
@@ -11,8 +10,6 @@ use Rattle.contents.specs.Logs.{log_ok}
 use Rattle.contents.specs.declared.Log.{Log}
 use Rattle.formats.specs.Codes.{letter_of, engine_of, with_engine, code_of, estimate_of}
 use Rattle.formats.specs.Formats.{ReadAnswer, reading, WriteAnswer, Format, read_bytes, write_bytes}
-use Rattle.formats.specs.declared.LogRead.{LogRead}
-use Rattle.formats.specs.declared.LogRead.TheVariants.{Read, Refused}
 
 -- engine letter, n, unit, zero, entry, round, proposal, first estimate, second estimate
 abbrev pub log_widths : Limits → List ℕ
@@ -58,14 +55,14 @@ log_format l =
       numbers = log_numbers;
       parse = parse_log;
       ok = log_ok l;
-      malformed = number_of Refusal.Log;
+      malformed = number_of (Some Refusal.Log);
       nothing = no_log;
     }
 
 -- the code's answer, as number and contents
-abbrev pub log_reading : LogRead → ReadAnswer Log
-log_reading (Read r) = reading 0 r
-log_reading (Refused k) = reading (number_of k) no_log
+abbrev pub log_reading : Result Log Refusal → ReadAnswer Log
+log_reading (Ok r) = reading 0 r
+log_reading (Err k) = reading (number_of (Some k)) no_log
 
 unfoldable pub read_log : Limits → List ℕ → ReadAnswer Log
 read_log l bs = read_bytes (log_format l) bs

@@ -1,6 +1,5 @@
 -- The bytes of a message. Assumes nothing.
-use Rattle.std.specs.Prelude.{ℕ, cond, List, [], ◌∷◌, eqb, length, get_or, replicate}
-use Rattle.std.proofs.Math.Option.{Option, none, some}
+use Rattle.std.specs.Prelude.{ℕ, cond, List, [], ◌∷◌, eqb, length, get_or, replicate, Option, Some, None, Result, Ok, Err}
 use Rattle.tally.specs.Limits.{Limits, message_size, message_fields}
 use Rattle.tally.specs.Refusal.{number_of}
 use Rattle.tally.specs.declared.Engine.{Engine}
@@ -10,12 +9,6 @@ use Rattle.contents.specs.declared.Kind.{Kind}
 use Rattle.contents.specs.declared.Message.{Message}
 use Rattle.formats.specs.Codes.{letter_of, engine_of, kind_letter, kind_of, code_of, estimate_of}
 use Rattle.formats.specs.Formats.{ReadAnswer, reading, WriteAnswer, Format, read_bytes, write_bytes}
-use Rattle.formats.specs.declared.EngineRead.{EngineRead}
-use Rattle.formats.specs.declared.EngineRead.TheVariants.{Is, Unknown}
-use Rattle.formats.specs.declared.KindRead.{KindRead}
-use Rattle.formats.specs.declared.KindRead.TheVariants.{Is as KindIs, Unknown as KindUnknown}
-use Rattle.formats.specs.declared.MessageRead.{MessageRead}
-use Rattle.formats.specs.declared.MessageRead.TheVariants.{Read, Refused}
 
 -- kind, engine, n, sender, receiver, zero, entry, round, estimate, proposal
 abbrev pub message_widths : Limits → List ℕ
@@ -44,10 +37,10 @@ message_of k e vs =
       proposal = estimate_of (get_or vs 8 0);
     }
 
-abbrev pub letters_read : KindRead → EngineRead → List ℕ → Option Message
-letters_read (KindIs k) (Is e) vs = some (message_of k e vs)
-letters_read (KindIs k) Unknown vs = none
-letters_read KindUnknown e vs = none
+abbrev pub letters_read : Option Kind → Option Engine → List ℕ → Option Message
+letters_read (Some k) (Some e) vs = Some (message_of k e vs)
+letters_read (Some k) None vs = None
+letters_read None e vs = None
 
 abbrev pub parse_message : List ℕ → Option Message
 parse_message vs = letters_read (kind_of (get_or vs 0 0)) (engine_of (get_or vs 1 0)) vs
@@ -63,14 +56,14 @@ message_format l =
       numbers = message_numbers;
       parse = parse_message;
       ok = message_ok l;
-      malformed = number_of Refusal.Message;
+      malformed = number_of (Some Refusal.Message);
       nothing = empty_message;
     }
 
 -- the code's answer, as number and contents
-abbrev pub message_reading : MessageRead → ReadAnswer Message
-message_reading (Read m) = reading 0 m
-message_reading (Refused k) = reading (number_of k) empty_message
+abbrev pub message_reading : Result Message Refusal → ReadAnswer Message
+message_reading (Ok m) = reading 0 m
+message_reading (Err k) = reading (number_of (Some k)) empty_message
 
 unfoldable pub read_message : Limits → List ℕ → ReadAnswer Message
 read_message l bs = read_bytes (message_format l) bs

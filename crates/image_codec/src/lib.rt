@@ -1,12 +1,12 @@
-// The 152 bytes of an image: those of a log, then two tallies.
+// The 152 bytes of an image: those of a log, then two tallies. Places go beside the bytes, as in big_endian: the definitions speak of places in the whole
+// image. An unmarked cell has an estimate too, so its mark goes beside it. Public functions take bytes of any length.
 #![tactic(auto)]
 
 ghost use Rattle.std.specs.Prelude.{◌≡◌, cond, ◌&&◌, map, ◌+◌, ◌*◌, ◌≤◌, length, replicate};
 ghost use Rattle.tally.specs.Limits.{today, image_size, senders, blank_code};
 ghost use Rattle.tally.specs.Tally.{no_marks};
 ghost use Rattle.tally.specs.declared.Estimate.TheVariants.{Blank};
-ghost use Rattle.contents.specs.Estimates.{is_blank};
-ghost use Rattle.contents.specs.Images.{every, cell_ok, cells_ok, tally_ok, image_ok, fits};
+ghost use Rattle.contents.specs.Images.{image_ok, fits};
 ghost use Rattle.formats.specs.Codes.{code_of, estimate_of};
 ghost use Rattle.formats.specs.Numbers.{num_at, unpack};
 ghost use Rattle.formats.specs.InnerNumbers.{pack_into, total};
@@ -15,9 +15,10 @@ ghost use Rattle.formats.specs.InnerImages.{tally_at, checks_at, seconds_at, fit
 ghost use Rattle.formats.specs.InnerImages.{tally_from, state_over, tally_over, image_over, in_image};
 ghost use Rattle.formats.specs.InnerFormats.{stored};
 
+use big_endian::BigEndian;
 use contents::{Log, State};
-use formats::{EngineRead, StateRead};
-use tally::{Cell, Engine, Estimate, Tally, limits};
+use rules::images::StandingTally;
+use tally::{Cell, Estimate, Tally, limits};
 
 // Where the tallies stand, and where a tally's estimates do.
 const AT_CHECKS: usize = limits::LOG_SIZE;
@@ -26,17 +27,13 @@ const AT_CELLS: usize = 2;
 
 const AT_SECONDS: usize = AT_CHECKS + AT_CELLS + 4 * limits::SENDERS;
 
-// Sixteen blanks.
+// Sixteen blanks, by place: std does not say what a slice ends as whose chunks were lent to be written.
 fn put_blanks(out: &mut [u8], at: usize)
     requires { at + total cell_widths ≤ length out.old }
     ensures { out.new ≡ pack_into out.old at cell_widths (replicate senders blank_code) }
 {
-    let mut from = at;
-    let mut k = 0;
-    while k < limits::SENDERS {
-        big_endian::put32(out, from, limits::BLANK);
-        from += 4;
-        k += 1;
+    for k in 0..limits::SENDERS {
+        limits::BLANK.put(out, at + 4 * k);
     }
 }
 
@@ -46,7 +43,7 @@ fn put_no_marks(out: &mut [u8], at: usize)
     requires { at + total tally_widths ≤ length out.old }
     ensures { out.new ≡ pack_into out.old at tally_widths (tally_numbers no_marks) }
 {
-    big_endian::put16(out, at, 0);
+    0u16.put(out, at);
     put_blanks(out, at + AT_CELLS);
 }
 
@@ -62,67 +59,26 @@ pub fn store_unmarked(log: Log, out: &mut [u8])
     }
 }
 
-// ---- the test, in place: only marked cells are decoded
-fn is_blank_at(s: &[u8], at: usize) -> bool
-    requires { at + 4 ≤ length s.now }
-    ensures { result ≡ is_blank (estimate_of (num_at s.now at 4)) }
-{
-    big_endian::be32(s, at) == limits::BLANK
+// ---- the test, in place
+// A tally at its place.
+#[derive(Drop)]
+struct TallyAt<'a> {
+    bytes: &'a [u8],
+    at: usize,
+    ghost room: { at + total tally_widths ≤ length bytes.now },
 }
 
-// Are all sixteen cells blank?
-#[tactic(auto, unfolding(contents::specs::Images::every))]
-fn blanks_at(s: &[u8], at: usize) -> bool
-    requires { at + total cell_widths ≤ length s.now }
-    ensures { result ≡ every senders (λ u. is_blank (estimate_of (num_at s.now (at + 4 * u) 4))) }
-{
-    let mut from = at;
-    let mut ok = true;
-    for k in 0..limits::MAX_UNITS {
-        ok = ok & is_blank_at(s, from);
-        from += 4;
-    }
-    ok
-}
+impl StandingTally for TallyAt<'_> {
+    ghost tally = { λ t. tally_at t.at t.bytes.now };
 
-fn cell_ok_at(s: &[u8], at: usize, split: bool, n: u8, sender: u8, marked: bool) -> bool
-    requires { at + 4 ≤ length s.now }
-    ensures { result ≡ cell_ok today split n sender marked (estimate_of (num_at s.now at 4)) }
-{
-    if marked {
-        let e = codes::estimate_of(big_endian::be32(s, at));
-        rules::images::cell_ok(split, n, sender, marked, e)
-    } else {
-        is_blank_at(s, at)
+    fn marks(&self) -> u16 {
+        u16::get(self.bytes, self.at)
     }
-}
 
-// A tally without marks is tested in one pass.
-#[tactic(auto, unfolding(contents::specs::Images::every, contents::specs::Images::cells_ok))]
-fn cells_ok_at(s: &[u8], at: usize, split: bool, n: u8) -> bool
-    requires { at + total tally_widths ≤ length s.now }
-    ensures { result ≡ cells_ok today split n (tally_at at s.now) }
-{
-    let marks = big_endian::be16(s, at);
-    if marks == 0 {
-        return blanks_at(s, at + AT_CELLS);
+    #[tactic(auto, using(formats::proofs::Places::estimate_at_lem))]
+    fn estimate(&self, sender: u8) -> Estimate {
+        codes::estimate_of(u32::get(self.bytes, self.at + AT_CELLS + 4 * sender as usize))
     }
-    let mut from = at + AT_CELLS;
-    let mut ok = true;
-    for k in 0..limits::MAX_UNITS {
-        ok = ok & cell_ok_at(s, from, split, n, k, tally::is_marked(marks, k));
-        from += 4;
-    }
-    ok
-}
-
-#[tactic(auto, unfolding(contents::specs::Images::tally_ok))]
-fn tally_ok_at(s: &[u8], at: usize, split: bool, engine: Engine, n: u8) -> bool
-    requires { at + total tally_widths ≤ length s.now }
-    ensures { result ≡ tally_ok today split engine n (tally_at at s.now) }
-{
-    cells_ok_at(s, at, split, n)
-        & (u16::count_ones(big_endian::be16(s, at)) < tally::quorum(engine, n))
 }
 
 // Are the tallies, after these first contents, well formed, and does all of it fit the log?
@@ -132,46 +88,30 @@ fn fits_at(s: &[u8], front: Log, log: Log) -> bool
     ensures { result ≡ (image_ok today (with_tallies front (tally_at checks_at s.now) (tally_at seconds_at s.now))
         && fits (with_tallies front (tally_at checks_at s.now) (tally_at seconds_at s.now)) log) }
 {
-    let settings = front.settings;
-    let state = front.state;
-    let engine = settings.engine;
-    let second = state.second;
-    let logged_settings = log.settings;
-    let logged = log.state;
-    let sound = rules::logs::well_formed(front);
-    let allowed = rules::images::checks_allowed(engine, second, big_endian::be16(s, AT_CHECKS));
-    let fit = rules::images::same_settings(settings, logged_settings)
-        & rules::images::state_fits(state, logged);
-    sound
-        & tally_ok_at(s, AT_CHECKS, false, engine, settings.n)
-        & tally_ok_at(
-            s,
-            AT_SECONDS,
-            rules::estimates::is_b(engine),
-            engine,
-            settings.n,
-        )
-        & allowed
-        & fit
+    let checks = TallyAt {
+        bytes: s,
+        at: AT_CHECKS,
+    };
+    let seconds = TallyAt {
+        bytes: s,
+        at: AT_SECONDS,
+    };
+    rules::logs::well_formed(front) & rules::images::tallies_fit(front, &checks, &seconds, log)
 }
 
 // The state of an image that is well formed and fits the log.
 #[tactic(auto, unfolding(formats::specs::Images::read_image, formats::specs::InnerImages::fit_state))]
-pub fn state_for(s: &[u8], log: Log) -> StateRead
+pub fn state_for(s: &[u8], log: Log) -> Option<State>
     ensures { result ≡ fit_state (read_image today s.now) log }
 {
     if s.len() != limits::IMAGE_SIZE {
-        return StateRead::Unfit;
+        return None;
     }
-    let EngineRead::Is(e) = log_codec::engine_at(s) else {
-        return StateRead::Unfit;
-    };
-    let front = log_codec::log_at(e, s);
-    let state = front.state;
+    let front = log_codec::log_at(log_codec::engine_at(s)?, s);
     if fits_at(s, front, log) {
-        StateRead::Fits(state)
+        Some(front.state)
     } else {
-        StateRead::Unfit
+        None
     }
 }
 
@@ -181,7 +121,7 @@ fn held_at(s: &[u8], at: usize, marked: bool) -> Estimate
     ensures { result ≡ cond marked (estimate_of (num_at s.now at 4)) Blank }
 {
     if marked {
-        codes::estimate_of(big_endian::be32(s, at))
+        codes::estimate_of(u32::get(s, at))
     } else {
         Estimate::Blank
     }
@@ -193,12 +133,8 @@ fn cells_at(s: &[u8], at: usize, marks: u16) -> [Cell; limits::SENDERS]
     ensures { result ≡ held_from (record { marks = marks; cells = map cell_of (unpack at cell_widths s.now) }) 0 senders }
 {
     let mut cells = tally::NO_CELLS;
-    let mut from = at;
-    for k in 0..limits::MAX_UNITS {
-        let i = k as usize;
-        let estimate = held_at(s, from, tally::is_marked(marks, k));
-        cells[i] = Cell { estimate };
-        from += 4;
+    for (k, cell) in cells.iter_mut().enumerate() {
+        cell.estimate = held_at(s, at + 4 * k, tally::is_marked(marks, k as u8));
     }
     cells
 }
@@ -207,7 +143,10 @@ fn tally_at(s: &[u8], at: usize) -> Tally
     requires { at + total tally_widths ≤ length s.now }
     ensures { result ≡ as_marked (tally_at at s.now) }
 {
-    let marks = big_endian::be16(s, at);
+    let marks = u16::get(s, at);
+    if marks == 0 {
+        return Tally::empty();
+    }
     Tally {
         marks,
         cells: cells_at(s, at + AT_CELLS, marks),
@@ -216,24 +155,14 @@ fn tally_at(s: &[u8], at: usize) -> Tally
 
 // The CHECKs and the SECONDs of an image; bytes of another length have none.
 #[tactic(auto, unfolding(formats::specs::InnerImages::tally_from))]
-pub fn checks_of(s: &[u8]) -> Tally
-    ensures { result ≡ tally_from checks_at s.now }
+pub fn tallies_of(s: &[u8]) -> (Tally, Tally)
+    ensures checks { result.0 ≡ tally_from checks_at s.now }
+    ensures seconds { result.1 ≡ tally_from seconds_at s.now }
 {
     if s.len() == limits::IMAGE_SIZE {
-        tally_at(s, AT_CHECKS)
+        (tally_at(s, AT_CHECKS), tally_at(s, AT_SECONDS))
     } else {
-        Tally::empty()
-    }
-}
-
-#[tactic(auto, unfolding(formats::specs::InnerImages::tally_from))]
-pub fn seconds_of(s: &[u8]) -> Tally
-    ensures { result ≡ tally_from seconds_at s.now }
-{
-    if s.len() == limits::IMAGE_SIZE {
-        tally_at(s, AT_SECONDS)
-    } else {
-        Tally::empty()
+        (Tally::empty(), Tally::empty())
     }
 }
 
@@ -248,38 +177,33 @@ fn held_code(marked: bool, e: Estimate) -> u32
 }
 
 #[tactic(auto, unfolding(formats::specs::InnerImages::held_from))]
-fn put_cells(t: Tally, out: &mut [u8], at: usize)
+fn put_cells(t: &Tally, out: &mut [u8], at: usize)
     requires { at + total cell_widths ≤ length out.old }
-    ensures { out.new ≡ pack_into out.old at cell_widths (map cell_code (held_from t 0 senders)) }
+    ensures { out.new ≡ pack_into out.old at cell_widths (map cell_code (held_from t.now 0 senders)) }
 {
-    let mut from = at;
-    for k in 0..limits::MAX_UNITS {
-        let i = k as usize;
-        let c = t.cells[i];
-        let e = c.estimate;
-        big_endian::put32(out, from, held_code(tally::is_marked(t.marks, k), e));
-        from += 4;
+    for (k, cell) in t.cells.iter().enumerate() {
+        held_code(tally::is_marked(t.marks, k as u8), cell.estimate).put(out, at + 4 * k);
     }
 }
 
-fn put_tally(t: Tally, out: &mut [u8], at: usize)
+fn put_tally(t: &Tally, out: &mut [u8], at: usize)
     requires { at + total tally_widths ≤ length out.old }
-    ensures { out.new ≡ pack_into out.old at tally_widths (tally_numbers (as_marked t)) }
+    ensures { out.new ≡ pack_into out.old at tally_widths (tally_numbers (as_marked t.now)) }
 {
     if t.marks == 0 {
         put_no_marks(out, at);
     } else {
-        big_endian::put16(out, at, t.marks);
+        t.marks.put(out, at);
         put_cells(t, out, at + AT_CELLS);
     }
 }
 
 // Writes a tally, unless the round is the same (`same`) and the bytes have its marks already.
-fn put_changed(t: Tally, same: bool, out: &mut [u8], at: usize)
+fn put_changed(t: &Tally, same: bool, out: &mut [u8], at: usize)
     requires { at + total tally_widths ≤ length out.old }
-    ensures { out.new ≡ tally_over at same t out.old }
+    ensures { out.new ≡ tally_over at same t.now out.old }
 {
-    if same & (t.marks == big_endian::be16(out, at)) {
+    if same & (t.marks == u16::get(out, at)) {
         return;
     }
     put_tally(t, out, at);
@@ -304,7 +228,7 @@ pub fn put_image(s: State, checks: Tally, seconds: Tally, out: &mut [u8])
     if out.len() == limits::IMAGE_SIZE {
         let same = s.round == log_codec::round_at(out);
         log_codec::put_state_at(s, out);
-        put_changed(checks, same, out, AT_CHECKS);
-        put_changed(seconds, same, out, AT_SECONDS);
+        put_changed(&checks, same, out, AT_CHECKS);
+        put_changed(&seconds, same, out, AT_SECONDS);
     }
 }

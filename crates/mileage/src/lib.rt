@@ -1,4 +1,5 @@
 // What a C program links: the version, logs and messages as plain numbers and as bytes, the four calls of a unit, and those of a card.
+// Each entry has the C function's parameters and gives a number, so that they are alike.
 #![tactic(auto)]
 
 ghost use Rattle.std.specs.Prelude.{◌≡◌, []};
@@ -27,7 +28,7 @@ pub extern "C" fn mileage_version() -> u32
 pub extern "C" fn mileage_read_log(log: &[u8], fields: &mut [u32]) -> u32
     ensures { wrote result fields.new ≡ read_log_call today log.now fields.old }
 {
-    fields::read_log(log, fields)
+    tally::number(fields::read_log(log, fields).err())
 }
 
 // Writes a log of its eight numbers.
@@ -35,7 +36,7 @@ pub extern "C" fn mileage_read_log(log: &[u8], fields: &mut [u32]) -> u32
 pub extern "C" fn mileage_write_log(fields: &[u32], log: &mut [u8]) -> u32
     ensures { wrote result log.new ≡ write_log_call today fields.now log.old }
 {
-    fields::write_log(fields, log)
+    tally::number(fields::write_log(fields, log).err())
 }
 
 // Reads a message's nine numbers: kind and engine letter, n, sender, receiver, entry, round, estimate, proposal.
@@ -43,7 +44,7 @@ pub extern "C" fn mileage_write_log(fields: &[u32], log: &mut [u8]) -> u32
 pub extern "C" fn mileage_read_message(message: &[u8], fields: &mut [u32]) -> u32
     ensures { wrote result fields.new ≡ read_message_call today message.now fields.old }
 {
-    fields::read_message(message, fields)
+    tally::number(fields::read_message(message, fields).err())
 }
 
 // Writes a message of its nine numbers.
@@ -51,7 +52,7 @@ pub extern "C" fn mileage_read_message(message: &[u8], fields: &mut [u32]) -> u3
 pub extern "C" fn mileage_write_message(fields: &[u32], message: &mut [u8]) -> u32
     ensures { wrote result message.new ≡ write_message_call today fields.now message.old }
 {
-    fields::write_message(fields, message)
+    tally::number(fields::write_message(fields, message).err())
 }
 
 // Starts a unit: writes its log and its image, and reads neither. The engine is its letter's number.
@@ -67,7 +68,7 @@ pub extern "C" fn mileage_start(
     ensures { called result log.new image.new [] blank_code
         ≡ start_call today engine n unit entry log.old image.old }
 {
-    unit_calls::start(engine, n, unit, entry, log, image)
+    tally::number(unit_calls::start(engine, n, unit, entry, log, image).err())
 }
 
 // Key-on: writes the image that the log gives, and does not read what it held.
@@ -75,7 +76,7 @@ pub extern "C" fn mileage_start(
 pub extern "C" fn mileage_key_on(log: &[u8], image: &mut [u8]) -> u32
     ensures { called result log.now image.new [] blank_code ≡ key_on_call today log.now image.old }
 {
-    unit_calls::key_on(log, image)
+    tally::number(unit_calls::key_on(log, image).err())
 }
 
 // Proposes a mileage: writes the image and a message, and no log.
@@ -84,7 +85,7 @@ pub extern "C" fn mileage_propose(log: &[u8], image: &mut [u8], mileage: u32, ou
     ensures { called result log.now image.new out.new blank_code
         ≡ propose_call today log.now image.old mileage out.old }
 {
-    unit_calls::propose(log, image, mileage, out)
+    tally::number(unit_calls::propose(log, image, mileage, out).err())
 }
 
 // Delivers a message: where nothing is refused, writes log, image and message. The decision is always written.
@@ -99,7 +100,7 @@ pub extern "C" fn mileage_deliver(
     ensures { called result log.new image.new out.new decision.new
         ≡ deliver_call today log.old image.old message.now out.old }
 {
-    unit_calls::deliver(log, image, message, out, decision)
+    tally::number(unit_calls::deliver(log, image, message, out, decision).err())
 }
 
 // Starts a row of a card: what any row held has no part in it.

@@ -1,18 +1,15 @@
 // Tests of engines and of single estimates.
 ghost use Rattle.std.specs.Prelude.{◌≡◌};
 ghost use Rattle.tally.specs.Limits.{today};
-ghost use Rattle.contents.specs.Estimates.{in_range, is_b, is_blank, is_split, is_mileage, mileage_or_blank, mileage_or_split, second_estimate_ok};
-ghost use Rattle.contents.specs.Estimates.{same_mileage, same_engine, same_estimate};
+ghost use Rattle.contents.specs.Estimates.{in_range, is_b, is_blank, is_split, is_mileage, mileage_or_blank, mileage_or_split};
+ghost use Rattle.contents.specs.Estimates.{second_estimate_ok, same_mileage};
 
 use tally::{Engine, Estimate, limits};
 
 pub fn is_b(e: Engine) -> bool
     ensures { result ≡ is_b e }
 {
-    match e {
-        Engine::B => true,
-        Engine::R => false,
-    }
+    e == Engine::B
 }
 
 pub fn in_range(m: u32) -> bool
@@ -24,31 +21,19 @@ pub fn in_range(m: u32) -> bool
 pub fn is_blank(e: Estimate) -> bool
     ensures { result ≡ is_blank e }
 {
-    match e {
-        Estimate::Blank => true,
-        Estimate::Split => false,
-        Estimate::Mileage(_) => false,
-    }
+    e == Estimate::Blank
 }
 
 pub fn is_split(e: Estimate) -> bool
     ensures { result ≡ is_split e }
 {
-    match e {
-        Estimate::Blank => false,
-        Estimate::Split => true,
-        Estimate::Mileage(_) => false,
-    }
+    e == Estimate::Split
 }
 
 pub fn is_mileage(e: Estimate) -> bool
     ensures { result ≡ is_mileage today e }
 {
-    match e {
-        Estimate::Blank => false,
-        Estimate::Split => false,
-        Estimate::Mileage(m) => in_range(m),
-    }
+    matches!(e, Estimate::Mileage(m) if in_range(m))
 }
 
 #[tactic(auto, unfolding(contents::specs::Estimates::mileage_or_blank))]
@@ -74,29 +59,10 @@ pub fn second_estimate_ok(engine: Engine, e: Estimate) -> bool
     is_blank(e) | (is_b(engine) & (is_mileage(e) | is_split(e)))
 }
 
-pub fn same_engine(a: Engine, b: Engine) -> bool
-    ensures { result ≡ same_engine a b }
-{
-    match a {
-        Engine::B => is_b(b),
-        Engine::R => !is_b(b),
-    }
-}
-
-pub fn same_estimate(a: Estimate, b: Estimate) -> bool
-    ensures { result ≡ same_estimate a b }
-{
-    match a {
-        Estimate::Blank => is_blank(b),
-        Estimate::Split => is_split(b),
-        Estimate::Mileage(v) => tally::has_value(b, v),
-    }
-}
-
 // The same mileage twice.
 #[tactic(auto, unfolding(contents::specs::Estimates::same_mileage))]
 pub fn same_mileage(a: Estimate, b: Estimate) -> bool
     ensures { result ≡ same_mileage today a b }
 {
-    is_mileage(a) & same_estimate(a, b)
+    is_mileage(a) & (a == b)
 }

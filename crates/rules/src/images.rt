@@ -1,11 +1,34 @@
 // Well-formed images, and images that fit their logs.
-ghost use Rattle.std.specs.Prelude.{◌≡◌};
-ghost use Rattle.tally.specs.Limits.{today};
-ghost use Rattle.contents.specs.Images.{cell_ok, checks_allowed, same_settings, state_fits};
+ghost use Rattle.std.specs.Prelude.{◌≡◌, ◌<◌, false, ◌&&◌};
+ghost use Rattle.tally.specs.Limits.{today, senders};
+ghost use Rattle.tally.specs.Tally.{estimate_at};
+ghost use Rattle.tally.specs.declared.Tally.{Tally};
+ghost use Rattle.contents.specs.Estimates.{is_b, is_blank};
+ghost use Rattle.contents.specs.Images.{every, cell_ok, cells_ok, tally_ok, checks_allowed, same_settings, state_fits};
 
 use super::estimates;
-use contents::{Settings, State};
-use tally::{Engine, Estimate};
+use contents::{Log, Settings, State};
+use tally::{Engine, Estimate, limits};
+
+// A tally where it stands: in an image's bytes, in a row's numbers. What is tested there is decoded there, and no tally is built of it.
+pub trait StandingTally {
+    // The tally that stands there.
+    ghost tally: { Self → Tally };
+
+    fn marks(&self) -> u16
+        ensures { result ≡ (tally self.now).marks };
+
+    fn estimate(&self, sender: u8) -> Estimate
+        requires { sender < senders }
+        ensures { result ≡ estimate_at (tally self.now) sender };
+
+    // Are all sixteen cells blank? Each is looked at, so that no test has to wait for the one before.
+    fn blanks(&self) -> bool
+        ensures { result ≡ every senders (λ u. is_blank (estimate_at (tally self.now) u)) }
+    {
+        (0..limits::MAX_UNITS).fold(true, |ok, k| ok & estimates::is_blank(self.estimate(k)))
+    }
+}
 
 // A sender's mark, and the estimate in its cell; `split` says whether a marked one may be split.
 #[tactic(auto, unfolding(contents::specs::Images::cell_ok))]
@@ -17,6 +40,30 @@ pub fn cell_ok(split: bool, n: u8, sender: u8, marked: bool, e: Estimate) -> boo
     } else {
         estimates::is_blank(e)
     }
+}
+
+// A tally without marks is tested in one pass.
+#[tactic(auto, unfolding(contents::specs::Images::every, contents::specs::Images::cells_ok))]
+fn cells_ok<T: StandingTally>(t: &T, split: bool, n: u8) -> bool
+    ensures { result ≡ cells_ok today split n (T.tally t.now) }
+{
+    let marks = t.marks();
+    if marks == 0 {
+        return t.blanks();
+    }
+    (0..limits::MAX_UNITS).fold(
+        true,
+        |ok, k| -> bool
+            requires { k < senders }
+        { ok & cell_ok(split, n, k, tally::is_marked(marks, k), t.estimate(k)) },
+    )
+}
+
+#[tactic(auto, unfolding(contents::specs::Images::tally_ok))]
+fn tally_ok<T: StandingTally>(t: &T, split: bool, engine: Engine, n: u8) -> bool
+    ensures { result ≡ tally_ok today split engine n (T.tally t.now) }
+{
+    cells_ok(t, split, n) & (u16::count_ones(t.marks()) < tally::quorum(engine, n))
 }
 
 // In R, or when the second estimate is not blank, there are no CHECK marks.
@@ -31,9 +78,7 @@ pub fn checks_allowed(engine: Engine, second: Estimate, marks: u16) -> bool
 pub fn same_settings(a: Settings, b: Settings) -> bool
     ensures { result ≡ same_settings a b }
 {
-    let x = a.engine;
-    let y = b.engine;
-    estimates::same_engine(x, y) & (a.n == b.n) & (a.unit == b.unit) & (a.entry == b.entry)
+    a == b
 }
 
 // The state of an image against that of its log.
@@ -41,12 +86,23 @@ pub fn same_settings(a: Settings, b: Settings) -> bool
 pub fn state_fits(i: State, l: State) -> bool
     ensures { result ≡ state_fits i l }
 {
-    let first = i.first;
-    let second = i.second;
-    let logged_first = l.first;
-    let logged_second = l.second;
-    ((i.round == l.round)
-        & estimates::same_estimate(first, logged_first)
-        & estimates::same_estimate(second, logged_second))
-        | ((l.round < i.round) & estimates::is_blank(first) & estimates::is_blank(second))
+    ((i.round == l.round) & (i.first == l.first) & (i.second == l.second))
+        | ((l.round < i.round) & estimates::is_blank(i.first) & estimates::is_blank(i.second))
+}
+
+// Are the tallies, beside these first contents of an image, well formed, and does all of it fit the log?
+pub fn tallies_fit<T: StandingTally>(front: Log, checks: &T, seconds: &T, log: Log) -> bool
+    ensures { result ≡ (tally_ok today false front.settings.engine front.settings.n (T.tally checks.now)
+        && tally_ok today (is_b front.settings.engine) front.settings.engine front.settings.n (T.tally seconds.now)
+        && checks_allowed front.settings.engine front.state.second (T.tally checks.now).marks
+        && same_settings front.settings log.settings
+        && state_fits front.state log.state) }
+{
+    let engine = front.settings.engine;
+    let n = front.settings.n;
+    tally_ok(checks, false, engine, n)
+        & tally_ok(seconds, estimates::is_b(engine), engine, n)
+        & checks_allowed(engine, front.state.second, checks.marks())
+        & same_settings(front.settings, log.settings)
+        & state_fits(front.state, log.state)
 }

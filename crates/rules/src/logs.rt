@@ -12,11 +12,9 @@ use tally::{Engine, limits};
 pub fn numbers_ok(n: u8, unit: u8, entry: u16) -> bool
     ensures { result ≡ numbers_ok n unit entry }
 {
-    (limits::MIN_UNITS <= n)
-        & (n <= limits::MAX_UNITS)
+    (limits::MIN_UNITS..=limits::MAX_UNITS).contains(&n)
         & (unit < n)
-        & (limits::MIN_ENTRY <= entry)
-        & (entry <= limits::MAX_ENTRY)
+        & (limits::MIN_ENTRY..=limits::MAX_ENTRY).contains(&entry)
 }
 
 pub fn round_ok(round: Round) -> bool
@@ -35,21 +33,15 @@ pub fn settings_ok(s: Settings) -> bool
 pub fn state_ok(engine: Engine, s: State) -> bool
     ensures { result ≡ state_ok today engine s }
 {
-    let proposal = s.proposal;
-    let first = s.first;
-    let second = s.second;
     round_ok(s.round)
-        & estimates::mileage_or_blank(proposal)
-        & estimates::mileage_or_blank(first)
-        & estimates::second_estimate_ok(engine, second)
+        & estimates::mileage_or_blank(s.proposal)
+        & estimates::mileage_or_blank(s.first)
+        & estimates::second_estimate_ok(engine, s.second)
 }
 
 #[tactic(auto, unfolding(contents::specs::Logs::log_ok))]
 pub fn well_formed(log: Log) -> bool
     ensures { result ≡ log_ok today log }
 {
-    let settings = log.settings;
-    let state = log.state;
-    let engine = settings.engine;
-    settings_ok(settings) & state_ok(engine, state)
+    settings_ok(log.settings) & state_ok(log.settings.engine, log.state)
 }

@@ -11,51 +11,37 @@ use tally::limits;
 pub fn is_empty(kind: Kind) -> bool
     ensures { result ≡ is_empty kind }
 {
-    match kind {
-        Kind::Empty => true,
-        Kind::First => false,
-        Kind::Check => false,
-        Kind::Second => false,
-        Kind::Skip => false,
-    }
+    kind == Kind::Empty
 }
 
 #[tactic(auto, unfolding(contents::specs::Messages::first_ok))]
 pub fn first_ok(m: Message) -> bool
     ensures { result ≡ first_ok today m }
 {
-    let estimate = m.estimate;
-    let proposal = m.proposal;
-    (m.receiver == limits::EVERYONE) & estimates::same_mileage(estimate, proposal)
+    (m.receiver == limits::EVERYONE) & estimates::same_mileage(m.estimate, m.proposal)
 }
 
 #[tactic(auto, unfolding(contents::specs::Messages::check_ok))]
 pub fn check_ok(m: Message) -> bool
     ensures { result ≡ check_ok today m }
 {
-    let engine = m.engine;
-    estimates::is_b(engine) & first_ok(m)
+    estimates::is_b(m.engine) & first_ok(m)
 }
 
 #[tactic(auto, unfolding(contents::specs::Messages::second_ok))]
 pub fn second_ok(m: Message) -> bool
     ensures { result ≡ second_ok today m }
 {
-    let engine = m.engine;
-    let estimate = m.estimate;
-    let proposal = m.proposal;
     (m.receiver == limits::EVERYONE)
-        & estimates::mileage_or_split(engine, estimate)
-        & estimates::mileage_or_blank(proposal)
+        & estimates::mileage_or_split(m.engine, m.estimate)
+        & estimates::mileage_or_blank(m.proposal)
 }
 
 #[tactic(auto, unfolding(contents::specs::Messages::skip_ok))]
 pub fn skip_ok(m: Message) -> bool
     ensures { result ≡ skip_ok today m }
 {
-    let estimate = m.estimate;
-    let proposal = m.proposal;
-    (m.receiver < m.n) & estimates::is_blank(estimate) & estimates::mileage_or_blank(proposal)
+    (m.receiver < m.n) & estimates::is_blank(m.estimate) & estimates::mileage_or_blank(m.proposal)
 }
 
 #[tactic(auto, unfolding(contents::specs::Messages::kind_ok))]
@@ -75,6 +61,5 @@ pub fn kind_ok(kind: Kind, m: Message) -> bool
 pub fn well_formed(m: Message) -> bool
     ensures { result ≡ message_ok today m }
 {
-    let kind = m.kind;
-    logs::numbers_ok(m.n, m.sender, m.entry) & logs::round_ok(m.round) & kind_ok(kind, m)
+    logs::numbers_ok(m.n, m.sender, m.entry) & logs::round_ok(m.round) & kind_ok(m.kind, m)
 }

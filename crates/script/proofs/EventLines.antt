@@ -1,4 +1,5 @@
 -- A line by its first two bytes, and the unit of its event. Assumes nothing.
+use Rattle.std.specs.Prelude.{Option, Some, None}
 use Prim.Native.Nat.{ℕ, ◌<◌}
 use mathlib.Core.Path.{◌≡◌, refl, ◌∙◌}
 use mathlib.Core.Bool.{Bool, true, false, cond}
@@ -12,8 +13,6 @@ use Rattle.script.specs.Parts.{comma, onto, parted}
 use Rattle.script.specs.Script.{one_of, two_of, unit_below, pair_below, of_one, of_two, letter_p, letter_d, letter_w, letter_k, letter_u, by_letter}
 use Rattle.script.specs.Script.{event_fields, event_of, event_unit}
 use Rattle.script.specs.declared.ScriptEvent.{ScriptEvent}
-use Rattle.script.specs.declared.NumberRead.{NumberRead}
-use Rattle.script.specs.declared.PairRead.{PairRead}
 
 cond_same : (t : Bool) (x : ScriptEvent) → cond t x x ≡ x
 cond_same true x = refl
@@ -22,7 +21,7 @@ cond_same false x = refl
 module _ (n : ℕ) where
   -- ---- first bytes
 
-  letter_malformed : (b : ℕ) (fs : List (List ℕ)) → one_of fs ≡ NumberRead.Malformed → two_of fs ≡ PairRead.Malformed
+  letter_malformed : (b : ℕ) (fs : List (List ℕ)) → one_of fs ≡ None → two_of fs ≡ None
       → by_letter n b fs ≡ ScriptEvent.Malformed
   unfolding by_letter
   letter_malformed b fs p q = simp (p, q, cond_same)
@@ -62,22 +61,22 @@ module _ (n : ℕ) where
   -- ---- units
 
   module _ (some : 0 < n) where
-    one_unit : (make : ℕ → ScriptEvent) → ((u : ℕ) → event_unit (make u) ≡ u) → (a : NumberRead) → event_unit (of_one make (unit_below n a)) < n
-    one_unit make e (NumberRead.Is u) = go (ltb u n) refl
+    one_unit : (make : ℕ → ScriptEvent) → ((u : ℕ) → event_unit (make u) ≡ u) → (a : Option ℕ) → event_unit (of_one make (unit_below n a)) < n
+    one_unit make e (Some u) = go (ltb u n) refl
       where
-        go : (t : Bool) → ltb u n ≡ t → event_unit (of_one make (cond t (NumberRead.Is u) NumberRead.Malformed)) < n
+        go : (t : Bool) → ltb u n ≡ t → event_unit (of_one make (cond t (Some u) None)) < n
         go true t = rw (e u) (ltb-true u n t)
         go false t = some
-    one_unit make e NumberRead.Malformed = some
+    one_unit make e None = some
 
-    two_unit : (make : ℕ → ℕ → ScriptEvent) → ((u x : ℕ) → event_unit (make u x) ≡ u) → (p : PairRead)
+    two_unit : (make : ℕ → ℕ → ScriptEvent) → ((u x : ℕ) → event_unit (make u x) ≡ u) → (p : Option (ℕ × ℕ))
         → event_unit (of_two make (pair_below n p)) < n
-    two_unit make e (PairRead.Are u x) = go (ltb u n) refl
+    two_unit make e (Some (u, x)) = go (ltb u n) refl
       where
-        go : (t : Bool) → ltb u n ≡ t → event_unit (of_two make (cond t (PairRead.Are u x) PairRead.Malformed)) < n
+        go : (t : Bool) → ltb u n ≡ t → event_unit (of_two make (cond t (Some (u, x)) None)) < n
         go true t = rw (e u x) (ltb-true u n t)
         go false t = some
-    two_unit make e PairRead.Malformed = some
+    two_unit make e None = some
 
     either : (t : Bool) (x y : ScriptEvent) → event_unit x < n → event_unit y < n → event_unit (cond t x y) < n
     either true x y p q = p

@@ -1,4 +1,5 @@
 -- Worked cases of numbers, headers, events and whole scripts in one table. Assumes nothing.
+use Rattle.std.specs.Prelude.{Option, Some, None}
 use Prim.Native.Nat.{ℕ, ◌+◌}
 use mathlib.Core.Path.{◌≡◌, refl}
 use mathlib.Core.List.{List, [], ◌∷◌, ◌++◌, map}
@@ -8,16 +9,14 @@ use Rattle.script.specs.Parts.{newline, comma}
 use Rattle.script.specs.Script.{letter_p, letter_d, letter_w, letter_k, letter_u, header_of, by_letter, event_of, Script, malformed, script, events_of, parse}
 use Rattle.script.specs.declared.ScriptEvent.{ScriptEvent}
 use Rattle.script.specs.declared.Header.{Header}
-use Rattle.script.specs.declared.HeaderRead.{HeaderRead}
-use Rattle.script.specs.declared.NumberRead.{NumberRead}
 
 -- the bytes of a field, of a header, of a line with n = 3, and of a script
 pub data Question : Type 0 where
   field header line whole : List ℕ → Question
 
 pub data Outcome : Type 0 where
-  a_number : NumberRead → Outcome
-  a_header : HeaderRead → Outcome
+  a_number : Option ℕ → Outcome
+  a_header : Option Header → Outcome
   an_event : ScriptEvent → Outcome
   a_script : Script → Outcome
 
@@ -77,16 +76,16 @@ return = 13
 -- ---- cases
 
 abbrev number : List ℕ → ℕ → Case
-number ds v = record { question = field (digits ds); expected = a_number (NumberRead.Is v) }
+number ds v = record { question = field (digits ds); expected = a_number (Some v) }
 
 abbrev no_number : List ℕ → Case
-no_number s = record { question = field s; expected = a_number NumberRead.Malformed }
+no_number s = record { question = field s; expected = a_number None }
 
 abbrev heads : List ℕ → Engine → ℕ → ℕ → Case
-heads s engine n entry = record { question = header s; expected = a_header (HeaderRead.Is (record { engine = engine; n = n; entry = entry })) }
+heads s engine n entry = record { question = header s; expected = a_header (Some (record { engine = engine; n = n; entry = entry })) }
 
 abbrev no_header : List ℕ → Case
-no_header s = record { question = header s; expected = a_header HeaderRead.Malformed }
+no_header s = record { question = header s; expected = a_header None }
 
 abbrev event : List ℕ → ScriptEvent → Case
 event s e = record { question = line s; expected = an_event e }

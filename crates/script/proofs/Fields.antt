@@ -1,4 +1,5 @@
 -- A field of digits has no comma. Assumes nothing.
+use Rattle.std.specs.Prelude.{Option, Some, None}
 use Prim.Native.Nat.{ℕ, ◌+◌, ◌≤◌, ◌<◌}
 use mathlib.Core.Path.{◌≡◌, refl}
 use mathlib.Core.Bool.{Bool, true, false, and-false}
@@ -13,8 +14,6 @@ use Rattle.script.specs.Numbers.{digit_zero, digit_nine, is_digit, all_digits, i
 use Rattle.script.specs.Parts.{comma, parted}
 use Rattle.script.specs.InnerParts.{before}
 use Rattle.script.specs.Script.{both, one_of, two_of}
-use Rattle.script.specs.declared.NumberRead.{NumberRead}
-use Rattle.script.specs.declared.PairRead.{PairRead}
 use Rattle.script.proofs.Parting.{parted_there, parted_none, parted_some}
 
 pub digit_range : (b : ℕ) → is_digit b ≡ true → (digit_zero ≤ b) × (b ≤ digit_nine)
@@ -32,11 +31,11 @@ pub digits_whole : (s : List ℕ) → all_digits s ≡ true → parted comma s �
 digits_whole s h = parted_none comma s (no_comma s h)
 
 -- a field with a comma is no number
-comma_in : (s : List ℕ) → before comma s < length s → read_number s ≡ NumberRead.Malformed
+comma_in : (s : List ℕ) → before comma s < length s → read_number s ≡ None
 unfolding is_number read_number
 comma_in s h = go (all_digits s) refl
   where
-    go : (t : Bool) → all_digits s ≡ t → read_number s ≡ NumberRead.Malformed
+    go : (t : Bool) → all_digits s ≡ t → read_number s ≡ None
     go true e = absurd (omega (arith, no_comma s e))
     go false e = simp (e, and-false)
 
@@ -50,9 +49,9 @@ one_number s = go (dec_lt (before comma s) (length s))
 pub two_numbers : (p s : List ℕ) → two_of (p ∷ parted comma s) ≡ both (read_number p) (read_number s)
 two_numbers p s = go (dec_lt (before comma s) (length s))
   where
-    not_both : (a : NumberRead) → PairRead.Malformed ≡ both a NumberRead.Malformed
-    not_both (NumberRead.Is x) = refl
-    not_both NumberRead.Malformed = refl
+    not_both : (a : Option ℕ) → None ≡ both a None
+    not_both (Some x) = refl
+    not_both None = refl
 
     go : Dec (before comma s < length s) → two_of (p ∷ parted comma s) ≡ both (read_number p) (read_number s)
     go (yes l) = rw (parted_there comma s l, comma_in s l, (parted_some comma (drop (before comma s + 1) s)).same) (not_both (read_number p))

@@ -1,4 +1,4 @@
--- What inner functions promise, of which no public call's contract speaks. Assumes nothing.
+-- What the laws of parts speak of, and no public call's contract. Assumes nothing.
 use Rattle.std.specs.Prelude.{ℕ, suc, cond, List, [], ◌∷◌, eqb}
 
 -- how many bytes stand before the first c; all where there is none

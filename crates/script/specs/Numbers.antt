@@ -1,6 +1,6 @@
 -- The numbers of a script. Assumes nothing.
-use Rattle.std.specs.Prelude.{ℕ, ◌+◌, ◌-◌, ◌*◌, Bool, true, not, cond, ◌&&◌, List, [], ◌∷◌, leb, eqb, length, get_or}
-use Rattle.script.specs.declared.NumberRead.{NumberRead}
+use Rattle.std.specs.Prelude.{ℕ, ◌+◌, ◌-◌, ◌*◌, Bool, true, not, cond, ◌&&◌, List, [], ◌∷◌, leb, eqb, length, get_or, Option, Some}
+use Rattle.std.specs.Prelude.{None}
 
 -- digits are in ASCII
 abbrev pub digit_zero : ℕ
@@ -40,5 +40,5 @@ is_number s =
     && not (leading_zero s)
     && leb (value_from 0 s) max_number
 
-unfoldable pub read_number : List ℕ → NumberRead
-read_number s = cond (is_number s) (NumberRead.Is (value_from 0 s)) NumberRead.Malformed
+unfoldable pub read_number : List ℕ → Option ℕ
+read_number s = cond (is_number s) (Some (value_from 0 s)) None

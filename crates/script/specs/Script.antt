@@ -1,36 +1,32 @@
 -- The script: its header and its events. Assumes nothing.
-use Rattle.std.specs.Prelude.{ℕ, Bool, cond, ◌&&◌, List, [], ◌∷◌, leb, ltb, eqb}
+use Rattle.std.specs.Prelude.{ℕ, Bool, cond, ◌&&◌, List, [], ◌∷◌, leb, ltb, eqb, Option, Some, None}
 use Rattle.tally.specs.Limits.{min_units, max_units, min_entry, max_entry}
 use Rattle.tally.specs.declared.Engine.{Engine}
 use Rattle.tally.specs.declared.Engine.TheVariants.{B}
 use Rattle.formats.specs.Codes.{engine_of}
-use Rattle.formats.specs.declared.EngineRead.{EngineRead}
 use Rattle.script.specs.Numbers.{read_number}
 use Rattle.script.specs.Parts.{comma, newline, parted}
 use Rattle.script.specs.declared.ScriptEvent.{ScriptEvent}
 use Rattle.script.specs.declared.Header.{Header}
-use Rattle.script.specs.declared.HeaderRead.{HeaderRead}
-use Rattle.script.specs.declared.NumberRead.{NumberRead}
-use Rattle.script.specs.declared.PairRead.{PairRead}
 
 -- ---- numbers in fields
 
-abbrev pub both : NumberRead → NumberRead → PairRead
-both (NumberRead.Is a) (NumberRead.Is b) = PairRead.Are a b
-both (NumberRead.Is a) NumberRead.Malformed = PairRead.Malformed
-both NumberRead.Malformed b = PairRead.Malformed
+abbrev pub both : Option ℕ → Option ℕ → Option (ℕ × ℕ)
+both (Some a) (Some b) = Some (a, b)
+both (Some a) None = None
+both None b = None
 
 -- fields that are one number, or two; field counts are exact
-abbrev pub one_of : List (List ℕ) → NumberRead
-one_of [] = NumberRead.Malformed
+abbrev pub one_of : List (List ℕ) → Option ℕ
+one_of [] = None
 one_of (a ∷ []) = read_number a
-one_of (a ∷ b ∷ fs) = NumberRead.Malformed
+one_of (a ∷ b ∷ fs) = None
 
-abbrev pub two_of : List (List ℕ) → PairRead
-two_of [] = PairRead.Malformed
-two_of (a ∷ []) = PairRead.Malformed
+abbrev pub two_of : List (List ℕ) → Option (ℕ × ℕ)
+two_of [] = None
+two_of (a ∷ []) = None
 two_of (a ∷ b ∷ []) = both (read_number a) (read_number b)
-two_of (a ∷ b ∷ c ∷ fs) = PairRead.Malformed
+two_of (a ∷ b ∷ c ∷ fs) = None
 
 -- ---- header: engine, n, entry
 
@@ -38,48 +34,48 @@ two_of (a ∷ b ∷ c ∷ fs) = PairRead.Malformed
 abbrev pub empty_engine : ℕ → Engine
 empty_engine n = B
 
-abbrev pub engine_field : ℕ → List ℕ → EngineRead
-engine_field n [] = EngineRead.Is (empty_engine n)
+abbrev pub engine_field : ℕ → List ℕ → Option Engine
+engine_field n [] = Some (empty_engine n)
 engine_field n (b ∷ []) = engine_of b
-engine_field n (b ∷ c ∷ s) = EngineRead.Unknown
+engine_field n (b ∷ c ∷ s) = None
 
 -- n or entry outside the ranges is malformed
 abbrev pub in_ranges : ℕ → ℕ → Bool
 in_ranges n entry = leb min_units n && leb n max_units && leb min_entry entry && leb entry max_entry
 
-abbrev pub header_with : EngineRead → ℕ → ℕ → HeaderRead
-header_with (EngineRead.Is g) n entry = HeaderRead.Is (record { engine = g; n = n; entry = entry })
-header_with EngineRead.Unknown n entry = HeaderRead.Malformed
+abbrev pub header_with : Option Engine → ℕ → ℕ → Option Header
+header_with (Some g) n entry = Some (record { engine = g; n = n; entry = entry })
+header_with None n entry = None
 
-abbrev pub with_numbers : List ℕ → PairRead → HeaderRead
-with_numbers f (PairRead.Are n entry) = cond (in_ranges n entry) (header_with (engine_field n f) n entry) HeaderRead.Malformed
-with_numbers f PairRead.Malformed = HeaderRead.Malformed
+abbrev pub with_numbers : List ℕ → Option (ℕ × ℕ) → Option Header
+with_numbers f (Some (n, entry)) = cond (in_ranges n entry) (header_with (engine_field n f) n entry) None
+with_numbers f None = None
 
-abbrev pub header_fields : List (List ℕ) → HeaderRead
-header_fields [] = HeaderRead.Malformed
+abbrev pub header_fields : List (List ℕ) → Option Header
+header_fields [] = None
 header_fields (f ∷ fs) = with_numbers f (two_of fs)
 
-unfoldable pub header_of : List ℕ → HeaderRead
+unfoldable pub header_of : List ℕ → Option Header
 header_of line = header_fields (parted comma line)
 
 -- ---- events: P,unit,mileage; D,unit,message; W,unit,message; K,unit; U,unit
 
 -- a unit number of n or more is malformed
-abbrev pub unit_below : ℕ → NumberRead → NumberRead
-unit_below n (NumberRead.Is u) = cond (ltb u n) (NumberRead.Is u) NumberRead.Malformed
-unit_below n NumberRead.Malformed = NumberRead.Malformed
+abbrev pub unit_below : ℕ → Option ℕ → Option ℕ
+unit_below n (Some u) = cond (ltb u n) (Some u) None
+unit_below n None = None
 
-abbrev pub pair_below : ℕ → PairRead → PairRead
-pair_below n (PairRead.Are u x) = cond (ltb u n) (PairRead.Are u x) PairRead.Malformed
-pair_below n PairRead.Malformed = PairRead.Malformed
+abbrev pub pair_below : ℕ → Option (ℕ × ℕ) → Option (ℕ × ℕ)
+pair_below n (Some (u, x)) = cond (ltb u n) (Some (u, x)) None
+pair_below n None = None
 
-abbrev pub of_one : (ℕ → ScriptEvent) → NumberRead → ScriptEvent
-of_one make (NumberRead.Is u) = make u
-of_one make NumberRead.Malformed = ScriptEvent.Malformed
+abbrev pub of_one : (ℕ → ScriptEvent) → Option ℕ → ScriptEvent
+of_one make (Some u) = make u
+of_one make None = ScriptEvent.Malformed
 
-abbrev pub of_two : (ℕ → ℕ → ScriptEvent) → PairRead → ScriptEvent
-of_two make (PairRead.Are u x) = make u x
-of_two make PairRead.Malformed = ScriptEvent.Malformed
+abbrev pub of_two : (ℕ → ℕ → ScriptEvent) → Option (ℕ × ℕ) → ScriptEvent
+of_two make (Some (u, x)) = make u x
+of_two make None = ScriptEvent.Malformed
 
 abbrev pub letter_p : ℕ
 letter_p = 80
@@ -157,9 +153,9 @@ pub data Script : Type 0 where
   malformed : Script
   script : Header → List ScriptEvent → Script
 
-abbrev pub with_header : HeaderRead → List (List ℕ) → Script
-with_header (HeaderRead.Is h) ps = script h (events_of h.n ps)
-with_header HeaderRead.Malformed ps = malformed
+abbrev pub with_header : Option Header → List (List ℕ) → Script
+with_header (Some h) ps = script h (events_of h.n ps)
+with_header None ps = malformed
 
 -- a header that no byte 10 ends is malformed, and so is an empty script
 abbrev pub from_lines : List (List ℕ) → Script

@@ -3,37 +3,18 @@
 
 use tally::Engine;
 
-// A field that should be a number.
-#[derive(Clone, Copy)]
-pub enum NumberRead {
-    Malformed,
-    Is(u32),
-}
-
-// Two fields that should be numbers.
-#[derive(Clone, Copy)]
-pub enum PairRead {
-    Malformed,
-    Are(u32, u32),
-}
-
-// Engine, n and entry.
-#[derive(Clone, Copy)]
+// Engine, n and entry. A script names no unit, so these are no settings.
+#[derive(Clone, Copy, PartialEq, Eq)]
 pub struct Header {
     pub engine: Engine,
     pub n: u8,
     pub entry: u16,
 }
 
-#[derive(Clone, Copy)]
-pub enum HeaderRead {
-    Malformed,
-    Is(Header),
-}
-
 // A line's event. Each is of one unit; a proposal gives a mileage, a delivery a message number. Cut, key-off and key-on are the scope paper's
-// terms: a cut is its W, as a delivery, but the key goes off after the log write.
-#[derive(Clone, Copy)]
+// terms: a cut is its W, as a delivery, but the key goes off after the log write. Malformed is a case and no None: such a line is played too, and is
+// refused with 8.
+#[derive(Clone, Copy, PartialEq, Eq)]
 pub enum ScriptEvent {
     Malformed,
     Propose(u32, u32),

@@ -9,7 +9,6 @@ use lib.ListN.{length}
 use borrow.Author.Tests.{eq-eqb, ne_eqb, eqb-true, eqb-false, le-leb, lt-leb, leb-true}
 use Rattle.tally.specs.Count.{bump, passing}
 use Rattle.tally.specs.Gathered.{any_mileage, has_value, holders, all_hold, common, first_passing, lowest, leads, majority}
-use Rattle.tally.specs.InnerGathered.{agrees}
 use Rattle.tally.specs.Quorum.{quorum_of, majority_of}
 use Rattle.tally.specs.declared.Engine.TheVariants.{R}
 use Rattle.tally.specs.declared.Estimate.{Estimate}
@@ -34,38 +33,6 @@ all_counted v (e ∷ es) = go (has_value v e) (all_counted v es)
         (suc (length es))
     go true h = h ∙ sym (eqb-suc-suc (passing (has_value v) es) (length es))
     go false h = sym (ne_eqb (passing (has_value v) es) (suc (length es)) (λ e. omega (arith, passing_le (has_value v) es)))
-
--- what is common to those that all agree so far, as a loop has it, and to more
-abbrev pub after : Estimate → List Estimate → Estimate
-after Blank es = common es
-after Split es = Split
-after (Mileage v) es = cond (all_hold v es) (Mileage v) Split
-
-pub after_one : (a e : Estimate) (es : List Estimate) → after a (e ∷ es) ≡ cond (agrees a e) (after e es) Split
-unfolding common all_hold
-after_one Blank Blank es = refl
-after_one Blank Split es = refl
-after_one Blank (Mileage v) es = refl
-after_one Split e es = refl
-after_one (Mileage v) Blank es = refl
-after_one (Mileage v) Split es = refl
-after_one (Mileage v) (Mileage w) es = go (eqb w v) refl
-  where
-    go : (b : Bool) → eqb w v ≡ b → cond (b && all_hold v es) (Mileage v) Split ≡ cond b (cond (all_hold w es) (Mileage w) Split) Split
-    go true h = rw (eqb-true w v h)
-    go false h = refl
-
-pub nothing_more : (a : Estimate) → any_mileage a ≡ true → after a [] ≡ a
-unfolding all_hold
-nothing_more Blank h = never cc
-nothing_more Split h = refl
-nothing_more (Mileage v) h = refl
-
-pub nothing_common : (a : Estimate) → any_mileage a ≡ false → after a [] ≡ Split
-unfolding common
-nothing_common Blank h = refl
-nothing_common Split h = refl
-nothing_common (Mileage v) h = never cc
 
 -- where the first that passes does not pass, none does
 first_none : (P : Estimate → Bool) (es : List Estimate) → P (first_passing P es) ≡ false → passing P es ≡ 0

@@ -4,4 +4,6 @@ pub mod Count
 pub mod Quorums
 pub mod Marks
 pub mod Gathered
+pub mod Chains
 pub mod Tallies
+pub mod Refusals

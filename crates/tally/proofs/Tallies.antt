@@ -1,4 +1,4 @@
--- Tallies: one turn of a loop over the senders, counts over unit numbers, and what marking a sender changes. Assumes nothing.
+-- Tallies: one turn of a search over the senders, counts over unit numbers, and what marking a sender changes. Assumes nothing.
 use Prim.Native.Nat.{ℕ, zero, suc, ◌+◌, ◌-◌, ◌^◌, ◌<◌, ◌≤◌}
 use mathlib.Core.Path.{◌≡◌, refl, sym, ap, ◌∙◌}
 use mathlib.Core.Bool.{Bool, true, false, cond, ◌&&◌, and-true}
@@ -14,56 +14,20 @@ use lib.Seq.{get_or-set_same, get_or-set_other}
 use Rattle.tally.specs.Limits.{senders}
 use Rattle.tally.specs.Count.{bump, passing, count, Both}
 use Rattle.tally.specs.Gathered.{has_value, holders, first_passing}
-use Rattle.tally.specs.InnerGathered.{agrees}
 use Rattle.tally.specs.Tally.{Typed, OnlyBelow, no_marks, is_marked, blank_cell, estimate_at, held, mark, gathered_from, gathered}
 use Rattle.tally.specs.Quorum.{quorum_of}
 use Rattle.tally.specs.declared.Cell.{Cell}
 use Rattle.tally.specs.declared.Engine.{Engine}
 use Rattle.tally.specs.declared.Estimate.{Estimate}
-use Rattle.tally.specs.declared.Estimate.TheVariants.{Blank, Split}
+use Rattle.tally.specs.declared.Estimate.TheVariants.{Blank}
 use Rattle.tally.specs.declared.Tally.{Tally}
 use Rattle.tally.proofs.Count.{passing_all, count_same, count_below}
-use Rattle.tally.proofs.Gathered.{after, after_one}
 use Rattle.tally.proofs.Quorums.{quorums_overlap}
 use Rattle.tally.proofs.Marks.{ones_senders, mark_same, mark_other, unmarked_none}
 
 -- those gathered from the sender s on
 abbrev pub rest : Tally → ℕ → List Estimate
 rest t s = gathered_from t s (senders - s)
-
--- one turn of a loop over the senders
-rest_step : (t : Tally) (s : ℕ) → s < senders → rest t s ≡ cond (is_marked t.marks s) (estimate_at t s ∷ rest t (s + 1)) (rest t (s + 1))
-unfolding gathered_from
-rest_step t s below = let e : senders - s ≡ suc (senders - (s + 1)) = omega arith in rw e (rw (add-one s))
-
--- the same, for those that pass a test
-module _ (P : Estimate → Bool) (t : Tally) (s : ℕ) (below : s < senders) where
-  pub passing_step : passing P (rest t s) ≡ bump (is_marked t.marks s && P (estimate_at t s)) (passing P (rest t (s + 1)))
-  passing_step = ap (passing P) (rest_step t s below) ∙ go (is_marked t.marks s) (rest t (s + 1))
-    where
-      go : (b : Bool) (es : List Estimate) → passing P (cond b (estimate_at t s ∷ es) es) ≡ bump (b && P (estimate_at t s)) (passing P es)
-      go true es = refl
-      go false es = refl
-
-  pub first_step : first_passing P (rest t s) ≡ cond (is_marked t.marks s && P (estimate_at t s)) (estimate_at t s) (first_passing P (rest t (s + 1)))
-  unfolding first_passing
-  first_step = ap (first_passing P) (rest_step t s below) ∙ go (is_marked t.marks s) (rest t (s + 1))
-    where
-      go : (b : Bool) (es : List Estimate) → first_passing P (cond b (estimate_at t s ∷ es) es)
-          ≡ cond (b && P (estimate_at t s)) (estimate_at t s) (first_passing P es)
-      go true es = refl
-      go false es = refl
-
--- the same, for what is common
-pub after_step : (a : Estimate) (t : Tally) (s : ℕ) → s < senders
-    → after a (rest t s)
-    ≡ cond (is_marked t.marks s) (cond (agrees a (estimate_at t s)) (after (estimate_at t s) (rest t (s + 1))) Split) (after a (rest t (s + 1)))
-after_step a t s below = ap (after a) (rest_step t s below) ∙ go (is_marked t.marks s) (rest t (s + 1))
-  where
-    go : (b : Bool) (es : List Estimate)
-        → after a (cond b (estimate_at t s ∷ es) es) ≡ cond b (cond (agrees a (estimate_at t s)) (after (estimate_at t s) es) Split) (after a es)
-    go true es = after_one a (estimate_at t s) es
-    go false es = refl
 
 -- those gathered that pass a test are the marked senders whose estimate does
 module _ (P : Estimate → Bool) (t : Tally) where
@@ -160,3 +124,16 @@ typed_mark t s e typed b =
       marks = or_lt senders t.marks (2 ^ s) typed.marks (pow-lt b);
       cells = length-set t.cells s (record { estimate = e }) ∙ typed.cells;
     }
+
+-- one turn of a search over the senders, for the first that passes a test
+pub first_step : (P : Estimate → Bool) (t : Tally) (s : ℕ) → s < senders
+    → first_passing P (rest t s) ≡ cond (is_marked t.marks s && P (estimate_at t s)) (estimate_at t s) (first_passing P (rest t (s + 1)))
+unfolding first_passing gathered_from
+first_step P t s below =
+    let e : senders - s ≡ suc (senders - (s + 1)) = omega arith in
+    rw e (rw (add-one s) (go (is_marked t.marks s) (gathered_from t (suc s) (senders - suc s))))
+  where
+    go : (b : Bool) (es : List Estimate) → first_passing P (cond b (estimate_at t s ∷ es) es)
+        ≡ cond (b && P (estimate_at t s)) (estimate_at t s) (first_passing P es)
+    go true es = refl
+    go false es = refl

@@ -3,79 +3,68 @@
 
 pub mod limits;
 
-ghost use Rattle.std.specs.Prelude.{◌≡◌, ◌<◌, ◌≤◌, ◌-◌, ◌^◌};
+ghost use Rattle.std.specs.Prelude.{◌≡◌, ◌<◌, ◌≤◌, ◌-◌, ◌^◌, ◌&&◌};
 ghost use Rattle.std.specs.Int.Bits.{bit_or};
 ghost use Rattle.std.specs.Int.Count.{ones};
 ghost use Rattle.tally.specs.Limits.{senders};
 ghost use Rattle.tally.specs.Refusal.{number_of};
 ghost use Rattle.tally.specs.Quorum.{quorum_of, majority_of};
-ghost use Rattle.tally.specs.Tally.{is_marked, no_marks, mark, gathered, gathered_from};
+ghost use Rattle.tally.specs.Tally.{is_marked, estimate_at, no_marks, mark, gathered, gathered_from};
 ghost use Rattle.tally.specs.Gathered.{any_mileage, has_value, holders, common, lowest, leads, first_passing, majority};
-ghost use Rattle.tally.specs.InnerGathered.{agrees};
+ghost use Rattle.tally.specs.InnerGathered.{sent_by};
 
 // The engines of the scope paper: B after B*-Consensus, R after R*-Consensus.
-#[derive(Clone, Copy)]
+#[derive(Clone, Copy, PartialEq, Eq)]
 pub enum Engine {
     B,
     R,
 }
 
-// A proposal or an estimate. Blank is the scope paper's term for the source's ⊥, split for its ⊤.
-#[derive(Clone, Copy)]
+// A proposal or an estimate. Blank is the scope paper's term for the source's ⊥, split for its ⊤. Blank is a case and no None: it is sent and stored
+// as the others are, and the scope paper names this enum.
+#[derive(Clone, Copy, PartialEq, Eq)]
 pub enum Estimate {
     Blank,
     Split,
     Mileage(u32),
 }
 
-// Why a call is turned down: the rows of the scope paper's table, in its order, and then those of the change requests.
-#[derive(Clone, Copy)]
+// Why a call is turned down: the rows of the scope paper's table, in its order and with its numbers, and then those of the change requests.
+#[derive(Clone, Copy, PartialEq, Eq)]
 pub enum Refusal {
-    None,
-    Length,
-    Log,
-    Image,
-    Message,
-    Addressee,
-    Mileage,
-    LastRound,
-    Line,
-    Power,
-    Unsent,
-    Full,
-    Row,
+    Length = 1,
+    Log = 2,
+    Image = 3,
+    Message = 4,
+    Addressee = 5,
+    Mileage = 6,
+    LastRound = 7,
+    Line = 8,
+    Power = 9,
+    Unsent = 10,
+    Full = 11,
+    Row = 12,
 }
 
-// The number that a caller is told.
-pub fn number(r: Refusal) -> u32
-    ensures { result ≡ number_of r }
+// The number that a caller is told: 0 where nothing is refused.
+pub fn number(refusal: Option<Refusal>) -> u32
+    ensures { result ≡ number_of refusal }
 {
-    match r {
-        Refusal::None => 0,
-        Refusal::Length => 1,
-        Refusal::Log => 2,
-        Refusal::Image => 3,
-        Refusal::Message => 4,
-        Refusal::Addressee => 5,
-        Refusal::Mileage => 6,
-        Refusal::LastRound => 7,
-        Refusal::Line => 8,
-        Refusal::Power => 9,
-        Refusal::Unsent => 10,
-        Refusal::Full => 11,
-        Refusal::Row => 12,
+    match refusal {
+        None => 0,
+        Some(refusal) => refusal as u32,
     }
 }
 
 // One of the sixteen estimates of a tally.
-#[derive(Clone, Copy)]
+#[derive(Clone, Copy, PartialEq, Eq)]
 pub struct Cell {
     pub estimate: Estimate,
 }
 
 // The senders that have been counted, and what each of them sent. Sender marks (the scope paper's term) are
 // bits, of value 2 to the power of the unit.
-#[derive(Clone, Copy)]
+#[derive(Clone, Copy, PartialEq, Eq)]
 pub struct Tally {
     pub marks: u16,
     pub cells: [Cell; limits::SENDERS],
@@ -99,7 +88,8 @@ pub fn majority_size(n: u8) -> u32
     quorum(Engine::R, n) / 2 + 1
 }
 
-// Has this sender a mark?
+// Has this sender a mark? A sender is a number as it comes in a message or in a loop, so that its bound is asked here, and by what follows here alone:
+// the step has it from `Checked`, a message that was found well formed.
 pub fn is_marked(marks: u16, sender: u8) -> bool
     requires { sender < senders }
     ensures { result ≡ is_marked marks sender }
@@ -119,33 +109,14 @@ fn with_mark(marks: u16, sender: u8) -> u16
 fn any_mileage(e: Estimate) -> bool
     ensures { result ≡ any_mileage e }
 {
-    match e {
-        Estimate::Blank => false,
-        Estimate::Split => false,
-        Estimate::Mileage(_) => true,
-    }
+    matches!(e, Estimate::Mileage(_))
 }
 
 // Is it this mileage?
 pub fn has_value(e: Estimate, v: u32) -> bool
     ensures { result ≡ has_value v e }
 {
-    match e {
-        Estimate::Blank => false,
-        Estimate::Split => false,
-        Estimate::Mileage(w) => w == v,
-    }
-}
-
-// Is a mileage the one that all so far hold? Blank is none so far, with which any mileage agrees.
-fn agrees(all: Estimate, e: Estimate) -> bool
-    ensures { result ≡ agrees all e }
-{
-    match all {
-        Estimate::Blank => any_mileage(e),
-        Estimate::Split => false,
-        Estimate::Mileage(v) => has_value(e, v),
-    }
+    e == Estimate::Mileage(v)
 }
 
 // Sixteen blanks.
@@ -182,58 +153,53 @@ impl Tally {
         u16::count_ones(self.marks)
     }
 
+    // What a marked sender sent.
+    fn sent_by(&self, sender: u8) -> Option<Estimate>
+        requires { sender < senders }
+        ensures { result ≡ sent_by self.now sender }
+    {
+        if is_marked(self.marks, sender) {
+            Some(self.cells[sender as usize].estimate)
+        } else {
+            None
+        }
+    }
+
+    // Is a sender marked with the mileage v? Both are looked at, with no branch between.
+    fn holds(&self, sender: u8, v: u32) -> bool
+        requires { sender < senders }
+        ensures { result ≡ (is_marked self.now.marks sender && has_value v (estimate_at self.now sender)) }
+    {
+        is_marked(self.marks, sender) & has_value(self.cells[sender as usize].estimate, v)
+    }
+
     // How many of the marked hold the mileage v.
     fn holders(&self, v: u32) -> u32
         ensures { result ≡ holders v (gathered self.now) }
     {
-        let mut found: u32 = 0;
-        for s in 0..limits::MAX_UNITS {
-            let at = s as usize;
-            let c = self.cells[at];
-            let e = c.estimate;
-            if is_marked(self.marks, s) & has_value(e, v) {
-                found += 1;
-            }
-        }
-        found
+        (0..limits::MAX_UNITS)
+            .map(|s| u32::from(self.holds(s, v)))
+            .sum()
     }
 
     // The mileage of the lowest marked sender that has one; blank where none has.
     pub fn lowest(&self) -> Estimate
         ensures { result ≡ lowest (gathered self.now) }
     {
-        for s in 0..limits::MAX_UNITS {
-            let at = s as usize;
-            let c = self.cells[at];
-            let e = c.estimate;
-            if is_marked(self.marks, s) & any_mileage(e) {
-                return e;
-            }
-        }
-        Estimate::Blank
+        (0..limits::MAX_UNITS)
+            .filter_map(|s| self.sent_by(s))
+            .find(|e| any_mileage(*e))
+            .unwrap_or(Estimate::Blank)
     }
 
     // The mileage that all the marked hold; split where they differ.
     pub fn common(&self) -> Estimate
         ensures { result ≡ common (gathered self.now) }
     {
-        let mut all = Estimate::Blank;
-        for s in 0..limits::MAX_UNITS {
-            let at = s as usize;
-            let c = self.cells[at];
-            let e = c.estimate;
-            if is_marked(self.marks, s) {
-                if agrees(all, e) {
-                    all = e;
-                } else {
-                    return Estimate::Split;
-                }
-            }
-        }
-        if any_mileage(all) {
-            all
-        } else {
-            Estimate::Split
+        let mut marked = (0..limits::MAX_UNITS).filter_map(|s| self.sent_by(s));
+        match marked.next() {
+            Some(Estimate::Mileage(v)) if marked.all(|e| has_value(e, v)) => Estimate::Mileage(v),
+            _ => Estimate::Split,
         }
     }
 
@@ -242,11 +208,7 @@ impl Tally {
     fn leads(&self, need: u32, e: Estimate) -> bool
         ensures { result ≡ leads need (gathered self.now) e }
     {
-        match e {
-            Estimate::Blank => false,
-            Estimate::Split => false,
-            Estimate::Mileage(v) => need <= self.holders(v),
-        }
+        matches!(e, Estimate::Mileage(v) if need <= self.holders(v))
     }
 
     // The mileage that at least `need` of the marked hold; blank where there is none.
@@ -258,7 +220,7 @@ impl Tally {
     }
 }
 
-// The first estimate, from a unit number on, that leads: a recursion over unit numbers.
+// The first estimate, from a unit number on, that leads: a recursion over unit numbers, which is the scope paper's form.
 fn leader_from(t: &Tally, need: u32, sender: u8) -> Estimate
     requires { sender ≤ senders }
     ensures { result ≡ first_passing (leads need (gathered t.now)) (gathered_from t.now sender (senders - sender)) }

@@ -1,5 +1,5 @@
 // Every limit and code of the scope paper and of the change requests, once; `specs/Limits.antt` has them for the contracts.
-// Letters are in crate codes, the numbers of refusals in `number`; the script's letters and the bound of its numbers are in bench_script.
+// Letters are in crate codes, the numbers of refusals at the enum `Refusal`; the script's letters are in bench_script.
 
 // Units n, numbered 0 to n - 1, and entries.
 pub const MIN_UNITS: u8 = 3;

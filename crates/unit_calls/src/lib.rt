@@ -1,84 +1,74 @@
-// The four calls of a unit over the bytes of its log and image.
+// The four calls of a unit over the bytes of its log and image, each with its C entry's parameters.
 #![tactic(auto)]
 
 mod buffers;
 
 ghost use Rattle.std.specs.Prelude.{◌≡◌, []};
+ghost use Rattle.std.specs.Result.{result_err};
 ghost use Rattle.tally.specs.Limits.{today, blank_code};
+ghost use Rattle.tally.specs.Refusal.{number_of};
 ghost use Rattle.calls.specs.Calls.{called, start_call, key_on_call, propose_call, deliver_call};
 
 use consensus::Unit;
-use contents::Settings;
-use formats::{EngineRead, LogRead, MessageRead, StateRead};
 use tally::{Refusal, limits};
 
 // Starts a unit: writes its log and its image, and reads neither. The engine is its letter's number.
-#[tactic(auto, unfolding(calls::specs::InnerCalls::settings_narrow))]
-pub fn start(engine: u32, n: u32, unit: u32, entry: u32, log: &mut [u8], image: &mut [u8]) -> u32
-    ensures { called result log.new image.new [] blank_code
+pub fn start(
+    engine: u32,
+    n: u32,
+    unit: u32,
+    entry: u32,
+    log: &mut [u8],
+    image: &mut [u8],
+) -> Result<(), Refusal>
+    ensures { called (number_of (result_err result)) log.new image.new [] blank_code
         ≡ start_call today engine n unit entry log.old image.old }
 {
     if buffers::wrong_lengths(log, image) {
-        return tally::number(Refusal::Length);
+        return Err(Refusal::Length);
     }
-    if !buffers::settings_narrow(engine, n, unit, entry) {
-        return tally::number(Refusal::Log);
-    }
-    let EngineRead::Is(e) = codes::engine_of(engine as u8) else {
-        return tally::number(Refusal::Log);
+    let Some(settings) = numbers::settings_from(engine, n, unit, entry) else {
+        return Err(Refusal::Log);
     };
-    let settings = Settings {
-        engine: e,
-        n: n as u8,
-        unit: unit as u8,
-        entry: entry as u16,
-    };
-    if !rules::logs::settings_ok(settings) {
-        return tally::number(Refusal::Log);
-    }
     let l = Unit::fresh(settings).log();
     log_codec::store_log(l, log);
     image_codec::store_unmarked(l, image);
-    tally::number(Refusal::None)
+    Ok(())
 }
 
 // Key-on: writes the image that the log gives, and does not read what it held.
-pub fn key_on(log: &[u8], image: &mut [u8]) -> u32
-    ensures { called result log.now image.new [] blank_code ≡ key_on_call today log.now image.old }
+pub fn key_on(log: &[u8], image: &mut [u8]) -> Result<(), Refusal>
+    ensures { called (number_of (result_err result)) log.now image.new [] blank_code ≡ key_on_call today log.now image.old }
 {
     if buffers::wrong_lengths(log, image) {
-        return tally::number(Refusal::Length);
+        return Err(Refusal::Length);
     }
-    let LogRead::Read(l) = log_codec::read_log(log) else {
-        return tally::number(Refusal::Log);
+    let Ok(l) = log_codec::read_log(log) else {
+        return Err(Refusal::Log);
     };
     image_codec::store_unmarked(l, image);
-    tally::number(Refusal::None)
+    Ok(())
 }
 
 // Proposes a mileage: writes the image and a message, and no log.
 #[tactic(auto, unfolding(calls::specs::Calls::propose_call, calls::specs::Calls::propose_call_conditions, consensus::specs::Conditions::first_refusal))]
-pub fn propose(log: &[u8], image: &mut [u8], mileage: u32, out: &mut [u8]) -> u32
-    ensures { called result log.now image.new out.new blank_code
+pub fn propose(log: &[u8], image: &mut [u8], mileage: u32, out: &mut [u8]) -> Result<(), Refusal>
+    ensures { called (number_of (result_err result)) log.now image.new out.new blank_code
         ≡ propose_call today log.now image.old mileage out.old }
 {
     let wrong = buffers::wrong_lengths(log, image) | (out.len() != limits::MESSAGE_SIZE);
     message_codec::clear(out);
     if wrong {
-        return tally::number(Refusal::Length);
+        return Err(Refusal::Length);
     }
-    let LogRead::Read(l) = log_codec::read_log(log) else {
-        return tally::number(Refusal::Log);
+    let Ok(l) = log_codec::read_log(log) else {
+        return Err(Refusal::Log);
     };
-    let StateRead::Fits(state) = image_codec::state_for(image, l) else {
-        return tally::number(Refusal::Image);
+    let Some(state) = image_codec::state_for(image, l) else {
+        return Err(Refusal::Image);
     };
-    let u = Unit::up(
-        l,
-        state,
-        image_codec::checks_of(image),
-        image_codec::seconds_of(image),
-    );
+    let (checks, seconds) = image_codec::tallies_of(image);
+    let u = Unit::up(l, state, checks, seconds);
     buffers::put_proposal(u.propose(mileage), image, out)
 }
 
@@ -90,8 +80,8 @@ pub fn deliver(
     message: &[u8],
     out: &mut [u8],
     decision: &mut u32,
-) -> u32
-    ensures { called result log.new image.new out.new decision.new
+) -> Result<(), Refusal>
+    ensures { called (number_of (result_err result)) log.new image.new out.new decision.new
         ≡ deliver_call today log.old image.old message.now out.old }
 {
     *decision = limits::BLANK;
@@ -100,22 +90,18 @@ pub fn deliver(
         | (out.len() != limits::MESSAGE_SIZE);
     message_codec::clear(out);
     if wrong {
-        return tally::number(Refusal::Length);
+        return Err(Refusal::Length);
     }
-    let LogRead::Read(l) = log_codec::read_log(log) else {
-        return tally::number(Refusal::Log);
+    let Ok(l) = log_codec::read_log(log) else {
+        return Err(Refusal::Log);
     };
-    let StateRead::Fits(state) = image_codec::state_for(image, l) else {
-        return tally::number(Refusal::Image);
+    let Some(state) = image_codec::state_for(image, l) else {
+        return Err(Refusal::Image);
     };
-    let MessageRead::Read(m) = message_codec::read_message(message) else {
-        return tally::number(Refusal::Message);
+    let Ok(m) = message_codec::read_message(message) else {
+        return Err(Refusal::Message);
     };
-    let u = Unit::up(
-        l,
-        state,
-        image_codec::checks_of(image),
-        image_codec::seconds_of(image),
-    );
+    let (checks, seconds) = image_codec::tallies_of(image);
+    let u = Unit::up(l, state, checks, seconds);
     buffers::put_answer(u.deliver(m), log, image, out, decision)
 }

@@ -5,7 +5,7 @@ use Rattle.bench.proofs.Whole.{printed_fits}
 use Rattle.bench_stream.proofs.play.Goals as goal
 
 pub slice_bounds-write_all-end : goal.slice_bounds-write_all-end
-slice_bounds-write_all-end g c = printed_fits today _ _ _ _ _ c.print-written.ensures
+slice_bounds-write_all-end g c = printed_fits today _ _ _ _ _ (rw (← c.unwrap_or-length.ensures) at c.print.ensures)
 
 pub slice_bounds-write_all-end-2 : goal.slice_bounds-write_all-end-2
-slice_bounds-write_all-end-2 g c = sym (length-take-le _ _ (printed_fits today _ _ _ _ _ c.print-written.ensures))
+slice_bounds-write_all-end-2 g c = sym (length-take-le _ _ (printed_fits today _ _ _ _ _ (rw (← c.unwrap_or-length.ensures) at c.print.ensures)))

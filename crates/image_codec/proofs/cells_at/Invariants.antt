@@ -1,5 +1,5 @@
 -- What is held of the senders still to come makes the whole. Assumes nothing.
-use Rattle.std.proofs.Common.{◌≡◌, ◌+◌, ◌*◌, ◌-◌, map, length}
+use Rattle.std.proofs.Common.{◌≡◌, ◌-◌, map, length}
 use Rattle.std.proofs.lemmas.List.Edits.{sets}
 use Rattle.tally.specs.Limits.{senders}
 use Rattle.tally.specs.declared.Tally.{Tally}
@@ -11,4 +11,4 @@ use Rattle.image_codec.proofs.cells_at.Given as goal
 abbrev pub invariant-loop-k : goal.invariant-loop-k
 invariant-loop-k l =
     let t : Tally = record { marks = l.marks; cells = map cell_of (unpack l.at cell_widths l.s) } in
-    (l.from ≡ l.at + 4 * l.k) × ((length l.cells ≡ senders) × (sets l.cells l.k (held_from t l.k (senders - l.k)) ≡ held_from t 0 senders))
+    (length l.cell-items ≡ senders) × (sets l.cell-items l.k (held_from t l.k (senders - l.k)) ≡ held_from t 0 senders)

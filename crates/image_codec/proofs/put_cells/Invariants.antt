@@ -8,7 +8,6 @@ use Rattle.image_codec.proofs.put_cells.Given as goal
 
 abbrev pub invariant-loop-k : goal.invariant-loop-k
 invariant-loop-k l =
-    (l.from ≡ l.at + 4 * l.k)
-    × ((length l.out ≡ length l.fn.out)
-    × (pack_into l.out l.from (replicate (senders - l.k) 4) (map cell_code (held_from l.t l.k (senders - l.k)))
-    ≡ pack_into l.fn.out l.at cell_widths (map cell_code (held_from l.t 0 senders))))
+    (length l.out ≡ length l.fn.out)
+    × (pack_into l.out (l.at + 4 * l.k) (replicate (senders - l.k) 4) (map cell_code (held_from l.t l.k (senders - l.k)))
+    ≡ pack_into l.fn.out l.at cell_widths (map cell_code (held_from l.t 0 senders)))

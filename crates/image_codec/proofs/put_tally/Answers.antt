@@ -10,4 +10,4 @@ pub returns-then-t-eq0 : goal.returns-then-t-eq0
 returns-then-t-eq0 c =
     let a = c.args in
     c.put_no_marks.ensures
-    ∙ ap (λ (t : Tally). pack_into a.out.now a.at tally_widths (tally_numbers t)) (none_marked a.t c.if-t-eq0.true)
+    ∙ ap (λ (t : Tally). pack_into a.out.now a.at tally_widths (tally_numbers t)) (none_marked a.t.now c.if-t-eq0.true)

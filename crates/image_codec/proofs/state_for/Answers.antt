@@ -9,11 +9,11 @@ use Rattle.image_codec.proofs.state_for.Goals as goal
 pub returns-then-fits_at : goal.returns-then-fits_at
 unfolding read_image
 returns-then-fits_at c =
-    rw (read_engine (image_format today) _ image_of (λ vs. refl) c.if-s-ne-IMAGE_SIZE.false _ (sym c.in-Is.ensures))
+    rw (read_engine (image_format today) _ image_of (λ vs. refl) c.if-s-ne-IMAGE_SIZE.false _ (sym c.in_ok-engine_at.ensures))
     (sym (fit_checked _ _ ∙ rw (rw c.log_at-front.ensures at (sym c.fits_at.ensures ∙ c.if-fits_at.true)) (rw c.log_at-front.ensures)))
 
 pub returns-else-fits_at : goal.returns-else-fits_at
 unfolding read_image
 returns-else-fits_at c =
-    rw (read_engine (image_format today) _ image_of (λ vs. refl) c.if-s-ne-IMAGE_SIZE.false _ (sym c.in-Is.ensures))
+    rw (read_engine (image_format today) _ image_of (λ vs. refl) c.if-s-ne-IMAGE_SIZE.false _ (sym c.in_ok-engine_at.ensures))
     (sym (fit_checked _ _ ∙ rw (rw c.log_at-front.ensures at (sym c.fits_at.ensures ∙ c.if-fits_at.false))))

@@ -15,7 +15,6 @@ returns-in_default c =
     rw (
       rw c.wrong_lengths.ensures at c.if-wrong.false,
       log_refused today sane_today _ c.in_default.field-0 c.in_default.ensures,
-      c.number-in_default.ensures,
       c.clear.ensures,
     )
 
@@ -24,9 +23,8 @@ unfolding deliver_call deliver_call_conditions first_refusal
 returns-in_default-state_for c =
     rw (
       rw c.wrong_lengths.ensures at c.if-wrong.false,
-      log_good _ _ c.in-Read.ensures,
-      image_bad _ _ _ c.in-Read.ensures (sym c.state_for.ensures ∙ c.in_default-state_for.is),
-      c.number-in_default-state_for.ensures,
+      log_good _ _ c.in-Ok.ensures,
+      image_bad _ _ _ c.in-Ok.ensures (sym c.state_for.ensures ∙ c.in_default-state_for.is),
       c.clear.ensures,
     )
 
@@ -35,22 +33,21 @@ unfolding deliver_call deliver_call_conditions first_refusal
 returns-in_default-read_message c =
     rw (
       rw c.wrong_lengths.ensures at c.if-wrong.false,
-      log_good _ _ c.in-Read.ensures,
-      image_good _ _ _ c.in-Read.ensures _ (sym c.state_for.ensures ∙ c.in-Fits.is),
+      log_good _ _ c.in-Ok.ensures,
+      image_good _ _ _ c.in-Ok.ensures _ (sym c.state_for.ensures ∙ c.in-Some.is),
       message_refused today sane_today _ c.in_default-read_message.field-0 c.in_default-read_message.ensures,
-      c.number-in_default-read_message.ensures,
       c.clear.ensures,
     )
 
 pub returns : goal.returns
 returns c =
-    let fit = sym c.state_for.ensures ∙ c.in-Fits.is in
+    let fit = sym c.state_for.ensures ∙ c.in-Some.is in
     let right = rw c.wrong_lengths.ensures at c.if-wrong.false in
     let others = unit_lengths today c.args.log.now c.args.image.now || wrong_length c.args.message.now (message_size today) in
     let size = out_size today others c.args.out.now right in
     let image : (k : ℕ) → get_or c.args.image.now k 0 < 256 = search rules in
-    let unit = (rw (c.seconds_of.ensures, c.checks_of.ensures) at c.up-u.ensures) ∙ unit_read _ _ _ c.in-Read.ensures _ fit image in
-    let h = held _ _ _ c.in-Read.ensures _ fit image (search rules) in
+    let unit = (rw (c.tallies_of.ensures.seconds, c.tallies_of.ensures.checks) at c.up-u.ensures) ∙ unit_read _ _ _ c.in-Ok.ensures _ fit image in
+    let h = held _ _ _ c.in-Ok.ensures _ fit image (search rules) in
     (rw (c.deliver.ensures, unit) at c.put_answer.ensures)
     ∙ answer_stored _ _ _ h _ (cleared_empty _ _ c.clear.ensures size) _
-    ∙ deliver_held _ _ _ h c.args.out.now size c.args.message.now _ (search rules) c.in-Read-read_message.ensures
+    ∙ deliver_held _ _ _ h c.args.out.now size c.args.message.now _ (search rules) c.in-Ok-read_message.ensures

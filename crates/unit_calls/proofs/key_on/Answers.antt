@@ -12,7 +12,7 @@ use Rattle.unit_calls.proofs.key_on.Goals as goal
 
 pub returns-then-wrong_lengths : goal.returns-then-wrong_lengths
 unfolding key_on_call key_on_call_conditions first_refusal cleared
-returns-then-wrong_lengths c = rw (sym c.wrong_lengths.ensures ∙ c.if-wrong_lengths.true, c.number.ensures)
+returns-then-wrong_lengths c = rw (sym c.wrong_lengths.ensures ∙ c.if-wrong_lengths.true)
 
 pub returns-in_default : goal.returns-in_default
 unfolding key_on_call key_on_call_conditions first_refusal cleared
@@ -20,7 +20,6 @@ returns-in_default c =
     rw (
       sym c.wrong_lengths.ensures ∙ c.if-wrong_lengths.false,
       log_refused today sane_today _ c.in_default.field-0 c.in_default.ensures,
-      c.number-in_default.ensures,
     )
 
 pub returns : goal.returns
@@ -29,8 +28,7 @@ returns c =
     let right = sym c.wrong_lengths.ensures ∙ c.if-wrong_lengths.false in
     rw (
       right,
-      ← c.in-Read.ensures,
-      c.number-2.ensures,
+      ← c.in-Ok.ensures,
       c.store_unmarked.ensures,
       image_stored today _ c.args.image.now (unit_sizes today _ _ right).1,
     )

@@ -15,7 +15,6 @@ returns-in_default c =
     rw (
       rw c.wrong_lengths.ensures at c.if-wrong.false,
       log_refused today sane_today _ c.in_default.field-0 c.in_default.ensures,
-      c.number-in_default.ensures,
       c.clear.ensures,
     )
 
@@ -24,19 +23,18 @@ unfolding propose_call propose_call_conditions first_refusal
 returns-in_default-state_for c =
     rw (
       rw c.wrong_lengths.ensures at c.if-wrong.false,
-      log_good _ _ c.in-Read.ensures,
-      image_bad _ _ _ c.in-Read.ensures (sym c.state_for.ensures ∙ c.in_default-state_for.is),
-      c.number-in_default-state_for.ensures,
+      log_good _ _ c.in-Ok.ensures,
+      image_bad _ _ _ c.in-Ok.ensures (sym c.state_for.ensures ∙ c.in_default-state_for.is),
       c.clear.ensures,
     )
 
 pub returns : goal.returns
 returns c =
-    let fit = sym c.state_for.ensures ∙ c.in-Fits.is in
+    let fit = sym c.state_for.ensures ∙ c.in-Some.is in
     let right = rw c.wrong_lengths.ensures at c.if-wrong.false in
     let size = out_size today (unit_lengths today c.args.log.now c.args.image.now) c.args.out.now right in
     let image : (k : ℕ) → get_or c.args.image.now k 0 < 256 = search rules in
-    let unit = (rw (c.seconds_of.ensures, c.checks_of.ensures) at c.up-u.ensures) ∙ unit_read _ _ _ c.in-Read.ensures _ fit image in
-    let h = held _ _ _ c.in-Read.ensures _ fit image (search rules) in
+    let unit = (rw (c.tallies_of.ensures.seconds, c.tallies_of.ensures.checks) at c.up-u.ensures) ∙ unit_read _ _ _ c.in-Ok.ensures _ fit image in
+    let h = held _ _ _ c.in-Ok.ensures _ fit image (search rules) in
     proposal_stored _ _ _ h _ (cleared_empty _ _ c.clear.ensures size) _ _ (rw (c.propose.ensures, unit) at c.put_proposal.ensures)
     ∙ propose_held _ _ _ h c.args.out.now size _

@@ -1,20 +1,19 @@
 -- What is left to print from here prints the whole. Assumes nothing.
-use Rattle.std.proofs.Common.{◌≡◌, ◌≤◌, ◌-◌, length}
-use Rattle.tally.specs.Limits.{today}
+use Rattle.std.proofs.Common.{◌+◌, ◌≤◌, length}
+use Rattle.tally.specs.Limits.{today, script_size}
 use Rattle.bench_play.specs.Bench.{start}
 use Rattle.bench_play.specs.Claims.{Sized}
+use Rattle.bench.specs.InnerLines.{events_in}
+use Rattle.bench.proofs.LineEnds.{Within}
 use Rattle.bench.proofs.Rest.{Left}
 use Rattle.bench.proofs.turns.put_events.Given as goal
 
-abbrev pub invariant-loop-p : goal.invariant-loop-p
-invariant-loop-p l =
+abbrev pub invariant-loop-event : goal.invariant-loop-event
+invariant-loop-event l =
+    let es = events_in l.event-iterator.n l.event-iterator.rest.now in
     record {
-      in_script : l.p ≤ length l.script;
-      counted : l.i ≤ l.p;
+      counted : l.i + length es ≤ script_size;
+      within : Within l.fn.h.n es;
       sized : Sized l.b;
-      same_length : length l.out ≡ length l.initial.out;
-      left : Left today l.h.n l.script l.initial.out (start l.h) l.from l.begin l.out l.b l.p l.at l.i;
+      left : Left today l.initial.out (start l.fn.h) (events_in l.fn.h.n l.rest) l.out l.b es l.i;
     }
-
-abbrev pub decreases-loop-p : goal.decreases-loop-p
-decreases-loop-p l = length l.script - l.p

@@ -5,5 +5,5 @@ use Rattle.consensus.proofs.Unit.received.Goals as goal
 
 pub on_kind-requires : goal.on_kind-requires
 on_kind-requires c =
-    let at = caught_up_round c.args.self.now c.args.m (omega (arith, c.if-m-self.false)) in
-    (c.requires.0, rw (c.caught_up.ensures, at) c.requires.1)
+    let at = caught_up_round c.args.self.now c.args.m.message (omega (arith, c.if-m-self.false)) in
+    rw (c.caught_up.ensures, at) c.args.m.in_rounds

@@ -1,40 +1,33 @@
-use Rattle.std.proofs.Common.{◌≡◌, refl, sym, ◌∙◌, arith}
-use Rattle.tally.specs.Limits.{senders}
-use Rattle.tally.specs.Tally.{gathered, gathered_from}
-use Rattle.tally.proofs.Gathered.{nothing_more, nothing_common}
-use Rattle.tally.proofs.Tallies.{after_step}
+use Rattle.std.proofs.Common.{rules, ◌≡◌, false}
+use Rattle.std.proofs.lemmas.Iterator.Search.{all_from_yields_List}
+use Rattle.tally.specs.Gathered.{any_mileage, has_value, common}
+use Rattle.tally.specs.Tally.{gathered}
+use Rattle.tally.proofs.Chains.{chain_gathered, common_first, common_other, none_first, some_first}
 use Rattle.tally.proofs.Tally.common.Goals as goal
-use Rattle.tally.proofs.Tally.common.Goals.{then-is_marked+then-agrees, else-is_marked}
 
-pub loop-s-init : goal.loop-s-init
-unfolding gathered
-loop-s-init c = (omega arith, refl)
+pub returns-in-Some-Mileage : goal.returns-in-Some-Mileage
+returns-in-Some-Mileage c =
+    let first = some_first c.next.new.self _ (gathered c.args.self.now) (rw (c.in-Some-Mileage.is, c.in-Some-Mileage.field-0-is) at c.next.ensures.steps)
+    (chain_gathered c.args.self.now c.filter_map-marked.ensures.source c.filter_map-marked.ensures.closure (λ x r q k. search rules)) in
+    let same = all_from_yields_List (has_value c.in-Some-Mileage.v) _ _ c.all.result c.all.ensures.ran first.1.1 (λ x b q k. search rules) in
+    rw (first.1.0, common_first c.in-Some-Mileage.v first.0, ← same, c.if-all.true)
 
-pub returns-else-agrees : goal.returns-else-agrees
-returns-else-agrees c =
-    let step = rw (← c.is_marked.ensures, c.if-is_marked.true, ← c.agrees.ensures, c.if-agrees.false) at
-    (after_step c.loop-s.all c.args.self.now c.loop-s.s c.loop-s-test.true) in
-    sym step ∙ c.loop-s.invariant.1
+pub returns-in_default : goal.returns-in_default
+returns-in_default c =
+    let first = some_first c.next.new.self _ (gathered c.args.self.now) (rw (c.in-Some-Mileage.is, c.in-Some-Mileage.field-0-is) at c.next.ensures.steps)
+    (chain_gathered c.args.self.now c.filter_map-marked.ensures.source c.filter_map-marked.ensures.closure (λ x r q k. search rules)) in
+    let same = all_from_yields_List (has_value c.in-Some-Mileage.v) _ _ c.all.result c.all.ensures.ran first.1.1 (λ x b q k. search rules) in
+    rw (first.1.0, common_first c.in-Some-Mileage.v first.0, ← same, c.if-all.false)
 
-pub loop-s-preserved : goal.loop-s-preserved
-loop-s-preserved c =
-    let step = rw (← c.is_marked.ensures) at (after_step c.loop-s.all c.args.self.now c.loop-s.s c.loop-s-test.true) in
-    elim c.if-is_marked.branch [
-      | then-is_marked+then-agrees w ↦
-          let turn = rw (w.if-is_marked.true, ← w.agrees.ensures, w.if-agrees.true) at step in (omega arith, rw w.all-is (sym turn ∙ c.loop-s.invariant.1))
-      | else-is_marked w ↦ let turn = rw w.if-is_marked.false at step in (omega arith, rw w.all-is (sym turn ∙ c.loop-s.invariant.1))
-    ]
+pub returns-in_default-2 : goal.returns-in_default-2
+returns-in_default-2 c =
+    let other : any_mileage c.in_default.field-0 ≡ false = search rules in
+    let first = some_first c.next.new.self _ (gathered c.args.self.now) (rw c.in_default.is at c.next.ensures.steps)
+    (chain_gathered c.args.self.now c.filter_map-marked.ensures.source c.filter_map-marked.ensures.closure (λ x r q k. search rules)) in
+    rw (first.1.0, common_other c.in_default.field-0 first.0 other)
 
-pub returns-then-any_mileage : goal.returns-then-any_mileage
-unfolding gathered_from
-returns-then-any_mileage c =
-    let e : c.loop-s.s ≡ senders = omega arith in
-    let all = rw e at c.loop-s.invariant.1 in
-    sym (nothing_more c.loop-s.all (sym c.any_mileage.ensures ∙ c.if-any_mileage.true)) ∙ all
-
-pub returns-else-any_mileage : goal.returns-else-any_mileage
-unfolding gathered_from
-returns-else-any_mileage c =
-    let e : c.loop-s.s ≡ senders = omega arith in
-    let all = rw e at c.loop-s.invariant.1 in
-    sym (nothing_common c.loop-s.all (sym c.any_mileage.ensures ∙ c.if-any_mileage.false)) ∙ all
+pub returns-in_default-3 : goal.returns-in_default-3
+unfolding common
+returns-in_default-3 c =
+    rw (none_first c.next.new.self (gathered c.args.self.now) (rw c.in_default.is at c.next.ensures.steps)
+    (chain_gathered c.args.self.now c.filter_map-marked.ensures.source c.filter_map-marked.ensures.closure (λ x r q k. search rules)))

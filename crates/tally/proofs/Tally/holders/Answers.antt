@@ -1,26 +1,30 @@
-use Rattle.std.proofs.Common.{◌≡◌, arith}
+use Rattle.std.proofs.Common.{rules, refl, ℕ, ◌&&◌, ◌∙◌, arith, cond}
+use Rattle.std.proofs.lemmas.Iterator.{YieldsList-from_range, YieldsList-from_map}
+use Rattle.std.proofs.lemmas.Iterator.Consumers.{sum_by_from_yields_List, fits_by_from_yields_list}
+use Rattle.std.proofs.lemmas.List.FromFn.{length-range_with_len}
+use Rattle.std.proofs.lemmas.List.Sums.{count_by-le-length}
+use Rattle.std.specs.List.{range_with_len}
 use Rattle.tally.specs.Limits.{senders}
 use Rattle.tally.specs.Gathered.{has_value, holders}
-use Rattle.tally.specs.Tally.{gathered, gathered_from}
-use Rattle.tally.proofs.Tallies.{passing_step}
+use Rattle.tally.specs.Tally.{is_marked, estimate_at}
+use Rattle.tally.proofs.Chains.{passing_chain}
 use Rattle.tally.proofs.Tally.holders.Goals as goal
-use Rattle.tally.proofs.Tally.holders.Goals.{then-is_marked-has_value, else-is_marked-has_value}
 
-pub loop-s-init : goal.loop-s-init
-unfolding gathered holders
-loop-s-init c = (omega arith, omega arith, omega arith)
-
-pub loop-s-preserved : goal.loop-s-preserved
-loop-s-preserved c =
-    let step = rw (← c.is_marked.ensures, ← c.has_value.ensures) at (passing_step (has_value c.args.v) c.args.self.now c.loop-s.s c.loop-s-test.true) in
-    elim c.if-is_marked-has_value.branch [
-      | then-is_marked-has_value w ↦ let turn = rw w.if-is_marked-has_value.true at step in (omega arith, omega arith, omega arith)
-      | else-is_marked-has_value w ↦ let turn = rw w.if-is_marked-has_value.false at step in (omega arith, omega arith, omega arith)
-    ]
+pub sum-requires-clause-fits : goal.sum-requires-clause-fits
+sum-requires-clause-fits c =
+    let t = c.args.self.now in
+    let holds = λ (u : ℕ). is_marked t.marks u && has_value c.args.v (estimate_at t u) in
+    fits_by_from_yields_list (λ u. cond (holds u) 1 0) (range_with_len 0 senders) c.map.result _
+    (YieldsList-from_map _ (λ u. cond (holds u) 1 0) (YieldsList-from_range 0 senders senders c.map.ensures.source refl) c.map.ensures.closure
+    (λ x r q k. search rules))
+    (omega (arith, count_by-le-length holds (range_with_len 0 senders), length-range_with_len 0 senders))
 
 pub returns : goal.returns
-unfolding gathered_from
+unfolding holders
 returns c =
-    let e : c.loop-s.s ≡ senders = omega arith in
-    let all = rw e at c.loop-s.invariant.2 in
-    omega arith
+    let t = c.args.self.now in
+    let holds = λ (u : ℕ). is_marked t.marks u && has_value c.args.v (estimate_at t u) in
+    sum_by_from_yields_List (λ u. cond (holds u) 1 0) (range_with_len 0 senders) c.map.result c.sum.result c.sum.ensures.ran
+    (YieldsList-from_map _ (λ u. cond (holds u) 1 0) (YieldsList-from_range 0 senders senders c.map.ensures.source refl) c.map.ensures.closure
+    (λ x r q k. search rules))
+    ∙ passing_chain (has_value c.args.v) t
