@@ -1,4 +1,5 @@
 -- Closing a round: what a full tally of votes sent makes sure, decided and next. Assumes nothing.
+use Rattle.std.proofs.lemmas.Bool.{and_parts}
 use Prim.Native.Nat.{ℕ, ◌+◌, ◌≤◌, ◌<◌}
 use mathlib.Core.Path.{◌≡◌, refl, sym, subst, ◌∙◌}
 use mathlib.Core.Bool.{Bool, true, false}
@@ -29,7 +30,6 @@ use Rattle.contents.specs.declared.Kind.TheVariants.{Empty, First, Check, Second
 use Rattle.contents.specs.declared.Message.{Message}
 use Rattle.contents.proofs.KindRules.{check_mileage, second_estimate}
 use Rattle.contents.proofs.Facts.{message_facts}
-use Rattle.contents.proofs.Tests.{both_true}
 use Rattle.consensus.specs.Step.{or_if_blank, decided, next_proposal}
 use Rattle.consensus.proofs.Full.{Proper, voted, others, holds_mileage, full_voted, common_voted}
 use Rattle.consensus.proofs.Full.{lowest_voted, lowest_blank, lowest_not_split, next_r_blocks, next_r_voted}
@@ -121,7 +121,7 @@ module _ (l : Limits) (c : Setup) (X : Message → Type 0) (A : ℕ → Type 0) 
           who = others t v;
           many = omega arith;
           each = λ s o.
-              let p = both_true (voted t s) _ o in
+              let p = and_parts (voted t s) _ o in
               record { estimate = held t s; vote = tallied s (not-true _ p.0); differs = not-true _ p.1 };
         }
 

@@ -1,5 +1,6 @@
 -- Each branch of one unit's step is good against the messages sent before it. Assumes nothing.
 use Rattle.std.specs.Prelude.{Option, None}
+use Rattle.std.proofs.lemmas.Bool.{and_parts}
 use Prim.Native.Nat.{ℕ, ◌^◌, ◌≤◌, ◌<◌}
 use mathlib.Core.Path.{◌≡◌, refl, sym, ap, subst, ◌∙◌}
 use mathlib.Core.Bool.{Bool, true, false}
@@ -31,7 +32,6 @@ use Rattle.contents.specs.declared.State.{State}
 use Rattle.contents.proofs.Facts.{message_facts, image_facts}
 use Rattle.contents.proofs.KindRules.{check_mileage}
 use Rattle.contents.proofs.Same.{Fits, state_fits_lem}
-use Rattle.contents.proofs.Tests.{both_true}
 use Rattle.consensus.specs.Methods.{unless, propose_conditions, propose, deliver_conditions, deliver, key_off, key_on}
 use Rattle.consensus.specs.Conditions.{Condition}
 use Rattle.consensus.specs.Step.{quiet, says, with_first, with_second, log_write, at_round, or_if_blank, send_first, proposed, vote_kind, vote_proposal}
@@ -75,7 +75,7 @@ unfolding fits
 ready l c u x w =
     let p = proper_unit l (seated c u x) w in
     record {
-      fits = state_fits_lem x.current x.logged (both_true (same_settings (settings_of c u) (settings_of c u)) _ w.fit).1;
+      fits = state_fits_lem x.current x.logged (and_parts (same_settings (settings_of c u) (settings_of c u)) _ w.fit).1;
       checks = p.0;
       seconds = p.1;
       few = (image_facts l (unit_image (seated c u x)) w.image).seconds.few;

@@ -12,14 +12,24 @@ use Rattle.bench_play.specs.Bench.{LineAnswer}
 use Rattle.bench_play.specs.Play.{answer, play, bench_after}
 use Rattle.bench_play.specs.declared.Bench.{Bench}
 use Rattle.bench_play.proofs.Settled.{answer_line}
+use Rattle.bench_turns.specs.InnerTurns.{unit_of}
 use Rattle.bench_turns.specs.declared.LineOutcome.{LineOutcome}
 use Rattle.bench_turns.proofs.Turns.{Turned}
 use Rattle.bench_text.specs.Text.{line_text, end_text}
 use Rattle.bench_text.specs.InnerText.{HasRoom, Appends}
 use Rattle.bench_text.specs.declared.Listing.{Listing}
 use Rattle.bench_text.proofs.Appending.{then, none, room_first, room_next}
-use Rattle.bench.specs.Listing.{line_of, line_with, lines_text, malformed_line}
+use Rattle.bench.specs.Listing.{unit_shown, sent_shown, line_of, line_with, lines_text, malformed_line}
 use Rattle.bench.specs.InnerLines.{rest_text}
+
+-- an event's unit, as a line shows it
+pub unit_shown_lem : (e : ScriptEvent) → sent_shown (unit_of e) ≡ unit_shown e
+unit_shown_lem ScriptEvent.Malformed = refl
+unit_shown_lem (ScriptEvent.Propose u v) = refl
+unit_shown_lem (ScriptEvent.Deliver u k) = refl
+unit_shown_lem (ScriptEvent.Cut u k) = refl
+unit_shown_lem (ScriptEvent.KeyOff u) = refl
+unit_shown_lem (ScriptEvent.KeyOn u) = refl
 
 -- what a malformed line prints
 pub malformed_line_lem : (l : Limits) (b : Bench) (i : ℕ) → line_of i ScriptEvent.Malformed (answer l b ScriptEvent.Malformed) ≡ malformed_line i

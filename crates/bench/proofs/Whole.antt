@@ -99,7 +99,8 @@ over_front text xs room = rw zero-add at (sets-eq text xs 0 (omega arith))
 
 -- what is put into such a listing is what the call answers
 pub printed_whole : (l : Limits) (s : List ℕ) {lent : MutBor (List ℕ)} {begun done : Listing} {ys : List ℕ} {k n : ℕ}
-    → max_listing ≤ length lent.now → Begins lent begun → Appends begun (listing l s) done → ys ≡ done.buffer.now → n ≡ done.at → k ≡ number_of None
+    → max_listing ≤ length lent.now → Begins lent begun → Appends begun (listing l s) done
+    → ys ≡ done.buffer.now → n ≡ done.at → k ≡ number_of None
     → printed k n ys ≡ listing_call l s lent.now
 unfolding listing_call
 printed_whole l s {lent} {begun} {done} {ys} {k} {n} room b wrote bytes ends accepted =

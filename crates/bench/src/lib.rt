@@ -30,6 +30,8 @@ const END_WIDTH: usize = 14;
 // No listing is longer: no line prints more than a malformed line for each of its bytes.
 pub const MAX_LISTING: usize = HEADER_WIDTH + MALFORMED_WIDTH * limits::SCRIPT_SIZE + END_WIDTH;
 
+// Room for any listing is asked of each function that puts one: it is there at the beginning alone, so it is no field of Listing.
+
 // What a malformed header prints.
 fn put_malformed(out: &mut Listing)
     requires { HasRoom out.old max_listing }
@@ -46,8 +48,11 @@ fn put_played(rest: &[u8], h: Header, out: &mut Listing)
     requires room { HasRoom out.old max_listing }
     ensures { Appends out.old (header_line h ++ rest_text today (start h) 0 (events_in h.n rest.now)) out.new }
 {
-    let engine = h.engine;
-    out.put_header(codes::letter_of(engine), h.n as u32, h.entry as u32);
+    out.put_header(
+        codes::letter_of(h.engine),
+        u32::from(h.n),
+        u32::from(h.entry),
+    );
     turns::put_events(rest, h, out);
 }
 
@@ -75,7 +80,8 @@ pub fn page() -> [u8; MAX_LISTING]
     [0; MAX_LISTING]
 }
 
-// The listing of a script, in a buffer that must have room for any listing: how many bytes it takes. The bytes past it stay.
+// The listing of a script, in a buffer that must have room for any listing: how many bytes it takes, and no slice, since the contract is of the whole buffer:
+// the bytes past the listing stay.
 #[tactic(auto, unfolding(crate::specs::Listing::listing_call))]
 pub fn print(script: &[u8], out: &mut [u8]) -> Result<usize, Refusal>
     ensures { printed (number_of (result_err result)) (result_unwrap_or result 0) out.new ≡ listing_call today script.now out.old }

@@ -44,7 +44,7 @@ impl<'a> Iterator for EventLines<'a> {
 }
 
 // The listing of the lines after the header, and the final line. The bench stays where it is: of it a line reads one unit and one message, and
-// stores at most one of each.
+// stores at most one of each. A place is made by `as`, as in bench_turns.
 pub(crate) fn put_events(rest: &[u8], h: Header, out: &mut Listing)
     requires rest_len_bound { length rest.now ≤ script_size }
     requires n_nonzero { 0 < h.n }
@@ -55,21 +55,17 @@ pub(crate) fn put_events(rest: &[u8], h: Header, out: &mut Listing)
     let mut b = bench_turns::start(h);
     let mut i: u32 = 0;
     let event_lines = EventLines { n: h.n, rest };
+    // Counted by hand: the final line has the number of lines too, of which `enumerate` tells nothing once it has ended.
     for event in event_lines {
         let u = bench_turns::event_unit(event);
         let k = bench_turns::event_place(event);
-        let unit = b.units[u];
-        let m = b.messages[k];
-        let answer = bench_turns::turn(unit, b.kept, m, event);
+        let answer = bench_turns::turn(b.units[u], b.kept, b.messages[k], event);
         let outcome = bench_turns::outcome_of(b.kept, answer);
         out.put_line(lines::listing_line(i + 1, event, outcome));
         if bench_turns::is_accepted(outcome) {
-            let next = answer.unit;
-            b.units[u] = next;
+            b.units[u] = answer.unit;
             if bench_turns::is_sent(outcome) {
-                let message = answer.message;
-                let place = b.kept as usize;
-                b.messages[place] = message;
+                b.messages[b.kept as usize] = answer.message;
                 b.kept += 1;
             }
         }

@@ -6,31 +6,18 @@ ghost use Rattle.script.specs.Script.{one_of, two_of, unit_below, pair_below, by
 use super::{numbers, parts};
 use script::ScriptEvent;
 
-// A unit number of n or more is malformed.
-fn unit_below(n: u8, unit: Option<u32>) -> Option<u32>
-    ensures { result ≡ unit_below n unit }
-{
-    unit.filter(|u| *u < u32::from(n))
-}
-
-fn pair_below(n: u8, pair: Option<(u32, u32)>) -> Option<(u32, u32)>
-    ensures { result ≡ pair_below n pair }
-{
-    pair.filter(|p| p.0 < u32::from(n))
-}
-
-// The unit that the rest of a line says.
+// The unit that the rest of a line says. A unit number of n or more is malformed.
 fn one_below(n: u8, rest: &[u8]) -> Option<u32>
     ensures { result ≡ unit_below n (one_of (parted comma rest.now)) }
 {
-    unit_below(n, numbers::one(rest))
+    numbers::one(rest).filter(|u| *u < u32::from(n))
 }
 
 // The unit, and a mileage or a message number.
 fn two_below(n: u8, rest: &[u8]) -> Option<(u32, u32)>
     ensures { result ≡ pair_below n (two_of (parted comma rest.now)) }
 {
-    pair_below(n, numbers::two(rest))
+    numbers::two(rest).filter(|p| p.0 < u32::from(n))
 }
 
 // The script letter decides the event.
@@ -49,14 +36,13 @@ fn by_letter(n: u8, letter: u8, rest: &[u8]) -> ScriptEvent
     event.unwrap_or(ScriptEvent::Malformed)
 }
 
-pub const QUESTION_MARK: u8 = b'?';
-
-// The letter of an event, as a listing shows it. Each letter stands here and in by_letter: constants would be five names more.
+// The letter of an event, as a listing shows it: a function and no From, since crate script has types alone. Each letter stands here and in by_letter:
+// constants would be five names more.
 pub fn event_letter(e: ScriptEvent) -> u8
     ensures { result ≡ event_letter e }
 {
     match e {
-        ScriptEvent::Malformed => QUESTION_MARK,
+        ScriptEvent::Malformed => b'?',
         ScriptEvent::Propose(_, _) => b'P',
         ScriptEvent::Deliver(_, _) => b'D',
         ScriptEvent::Cut(_, _) => b'W',

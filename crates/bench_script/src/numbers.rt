@@ -1,6 +1,6 @@
 // The numbers of a script.
-ghost use Rattle.std.specs.Prelude.{◌≡◌, true, ◌≤◌, length};
-ghost use Rattle.script.specs.Numbers.{max_digits, all_digits, leading_zero, value_from, read_number};
+ghost use Rattle.std.specs.Prelude.{◌≡◌};
+ghost use Rattle.script.specs.Numbers.{all_digits, leading_zero, read_number};
 ghost use Rattle.script.specs.Parts.{comma, parted};
 ghost use Rattle.script.specs.Script.{one_of, two_of};
 
@@ -21,19 +21,6 @@ fn leading_zero(s: &[u8]) -> bool
     matches!(s, [b'0', _, ..])
 }
 
-// The value of the digits.
-fn value(s: &[u8]) -> u64
-    requires s_len_bound { length s.now ≤ max_digits }
-    requires s_value { all_digits s.now ≡ true }
-    ensures { result ≡ value_from 0 s.now }
-{
-    let mut v: u64 = 0;
-    for b in s {
-        v = v * 10 + u64::from(b - b'0');
-    }
-    v
-}
-
 // A number of a script: 1 to 10 digits, no leading zero, at most 4,294,967,295.
 #[tactic(auto, unfolding(script::specs::Numbers::is_number, script::specs::Numbers::read_number))]
 pub fn read_number(s: &[u8]) -> Option<u32>
@@ -42,7 +29,7 @@ pub fn read_number(s: &[u8]) -> Option<u32>
     if s.is_empty() || MAX_DIGITS < s.len() || !all_digits(s) || leading_zero(s) {
         return None;
     }
-    u32::try_from(value(s)).ok()
+    str::from_utf8(s).ok()?.parse().ok()
 }
 
 // One field that is a number: a comma is no digit.

@@ -1,5 +1,6 @@
 -- A number that is printed is read back the same. Assumes nothing.
 use Rattle.std.specs.Prelude.{Some}
+use Rattle.std.proofs.lemmas.Bool.{and_parts}
 use Prim.Native.Nat.{ℕ, zero, suc, ◌+◌, ◌-◌, ◌*◌, ◌^◌, ◌≤◌, ◌<◌, ◌/◌, ◌%◌}
 use mathlib.Core.Path.{◌≡◌, refl, sym, ◌∙◌}
 use mathlib.Core.Bool.{true, false, and-false}
@@ -8,7 +9,6 @@ use native.Mathlib.Decide.{dec_lt}
 use native.Mathlib.Omega.{arith}
 use borrow.Author.Tests.{le-leb, lt-leb, ne_eqb}
 use lib.ListN.{length, get_or, length-append, get_or-append}
-use Rattle.contents.proofs.Tests.{both_true}
 use Rattle.script.specs.Numbers.{digit_zero, digit_nine, max_digits, max_number, is_digit, all_digits, leading_zero, value_from, is_number, read_number}
 use Rattle.bench_text.specs.Text.{digits, decimal}
 use Rattle.bench_text.proofs.Digits.{few, many, lower, digits_short}
@@ -26,7 +26,7 @@ digit d h = rw (le-leb digit_zero (digit_zero + d) (omega arith), le-leb (digit_
 
 all_snoc : (s : List ℕ) (b : ℕ) → all_digits s ≡ true → is_digit b ≡ true → all_digits (s ++ (b ∷ [])) ≡ true
 all_snoc [] b h d = rw d
-all_snoc (x ∷ s) b h d = let t = both_true (is_digit x) (all_digits s) h in rw (t.0, all_snoc s b t.1 d)
+all_snoc (x ∷ s) b h d = let t = and_parts (is_digit x) (all_digits s) h in rw (t.0, all_snoc s b t.1 d)
 
 value_snoc : (v : ℕ) (s : List ℕ) (b : ℕ) → value_from v (s ++ (b ∷ [])) ≡ value_from v s * 10 + (b - digit_zero)
 value_snoc v [] b = refl

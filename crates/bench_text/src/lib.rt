@@ -29,7 +29,7 @@ pub struct ListingLine {
     pub decision: Shown,
 }
 
-// A listing so far, at the front of a lent buffer.
+// A listing so far, at the front of a lent buffer. Room is asked for text by text: it shrinks with each, so it is no field.
 #[derive(Drop)]
 pub struct Listing<'a> {
     buffer: &'a mut [u8],
@@ -59,7 +59,7 @@ impl<'a> Listing<'a> {
     }
 
     // n in decimal, in at most k digits: a recursion, as the definition is. Of what std's Display writes to a writer of our own its contracts do not say
-    // that it is all written.
+    // that it is all written. The kit's `itoa` gives the same text: one library more, and a law that it is `decimal`, for these few lines.
     fn put_digits(&mut self, n: u32, k: usize)
         requires room { HasRoom self.old (length (digits k n)) }
         requires k_nonzero { 0 < k }

@@ -7,6 +7,7 @@ use native.Mathlib.Omega.{arith}
 use lib.Dec.{ltb}
 use lib.ListN.{get_or, set}
 use borrow.Author.Tests.{eq-eqb, ne_eqb, ltb-true, ltb-false, le-leb, lt-leb}
+use Rattle.std.specs.Option.{unwrap_or}
 use Rattle.tally.proofs.Never.{never}
 use Rattle.tally.specs.Limits.{Limits, places}
 use Rattle.tally.specs.declared.Refusal.{Refusal}
@@ -23,10 +24,18 @@ use Rattle.bench_play.specs.Bench.{LineAnswer, no_unit, unit_at, message_at, no_
 use Rattle.bench_play.specs.Play.{delivery_conditions, delivery, unit_answer, answer}
 use Rattle.bench_play.specs.declared.Bench.{Bench}
 use Rattle.bench_play.proofs.Settled.{by_settle, by_answer, answer_line}
-use Rattle.bench_turns.specs.InnerTurns.{place_or_first, event_place, turn_delivery, turn, outcome_of, is_accepted, is_sent}
+use Rattle.bench_turns.specs.InnerTurns.{unit_of, place_or_first, event_place, turn_delivery, turn, outcome_of, is_accepted, is_sent}
 use Rattle.bench_turns.specs.declared.LineOutcome.{LineOutcome}
 
--- ---- the place of the message that an event takes
+-- ---- the unit and the place of the message that an event takes
+
+pub unit_or_first : (e : ScriptEvent) → unwrap_or (unit_of e) 0 ≡ event_unit e
+unit_or_first ScriptEvent.Malformed = refl
+unit_or_first (ScriptEvent.Propose u v) = refl
+unit_or_first (ScriptEvent.Deliver u k) = refl
+unit_or_first (ScriptEvent.Cut u k) = refl
+unit_or_first (ScriptEvent.KeyOff u) = refl
+unit_or_first (ScriptEvent.KeyOn u) = refl
 
 place_or_first_lem : (k : ℕ) → place_or_first k < places
 place_or_first_lem k = go (ltb k places) refl

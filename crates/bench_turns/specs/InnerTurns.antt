@@ -17,6 +17,15 @@ use Rattle.bench_turns.specs.declared.LineOutcome.{LineOutcome}
 
 -- ---- what an event takes of the bench: its unit, and the message at this place
 
+-- the unit of an event that has one
+abbrev pub unit_of : ScriptEvent → Option ℕ
+unit_of ScriptEvent.Malformed = None
+unit_of (ScriptEvent.Propose u v) = Some u
+unit_of (ScriptEvent.Deliver u k) = Some u
+unit_of (ScriptEvent.Cut u k) = Some u
+unit_of (ScriptEvent.KeyOff u) = Some u
+unit_of (ScriptEvent.KeyOn u) = Some u
+
 -- a place's number, or the first
 abbrev pub place_or_first : ℕ → ℕ
 place_or_first k = cond (ltb k places) k 0

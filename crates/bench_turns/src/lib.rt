@@ -2,13 +2,13 @@
 // messages there are), and what it makes of it comes back.
 #![tactic(auto)]
 
-ghost use Rattle.std.specs.Prelude.{◌≡◌};
+ghost use Rattle.std.specs.Prelude.{◌≡◌, Some};
 ghost use Rattle.tally.specs.Limits.{today, senders};
 ghost use Rattle.script.specs.Script.{event_unit};
 ghost use Rattle.consensus.specs.Step.{fresh};
 ghost use Rattle.bench_play.specs.Bench.{header_settings, fresh_units, start, no_place_left};
 ghost use Rattle.bench_play.specs.Play.{cut_short};
-ghost use Rattle.bench_turns.specs.InnerTurns.{place_or_first, event_place, turn_delivery, turn};
+ghost use Rattle.bench_turns.specs.InnerTurns.{unit_of, place_or_first, event_place, turn_delivery, turn};
 ghost use Rattle.bench_turns.specs.InnerTurns.{refused_outcome, accepted_outcome, send_outcome, outcome_of, is_accepted, is_sent};
 
 use bench_play::Bench;
@@ -24,9 +24,8 @@ use tally::{Estimate, Refusal, limits};
 fn fresh_unit(h: Header, unit: u8) -> Unit
     ensures { result ≡ fresh (header_settings h unit) }
 {
-    let engine = h.engine;
     Unit::fresh(Settings {
-        engine,
+        engine: h.engine,
         n: h.n,
         unit,
         entry: h.entry,
@@ -52,19 +51,27 @@ pub fn start(h: Header) -> Bench
 }
 
 // ---- what an event takes of the bench: the first where it takes nothing, so that each line reads a unit and a message; what it reads then plays no
-// part. Crate script has types alone, so what is asked of an event is a match where it is asked.
+// part. Crate script has types alone, so what is asked of an event is a match where it is asked. Places by `as`: std has no From between u32 and usize.
 
+// The unit of an event that has one.
+pub fn unit_of(e: ScriptEvent) -> Option<u32>
+    ensures { result ≡ unit_of e }
+{
+    match e {
+        ScriptEvent::Malformed => None,
+        ScriptEvent::Propose(u, _)
+        | ScriptEvent::Deliver(u, _)
+        | ScriptEvent::Cut(u, _)
+        | ScriptEvent::KeyOff(u)
+        | ScriptEvent::KeyOn(u) => Some(u),
+    }
+}
+
+#[tactic(auto, using(crate::proofs::Turns::unit_or_first))]
 pub fn event_unit(e: ScriptEvent) -> usize
     ensures { result ≡ event_unit e }
 {
-    match e {
-        ScriptEvent::Malformed => 0,
-        ScriptEvent::Propose(u, _) => u as usize,
-        ScriptEvent::Deliver(u, _) => u as usize,
-        ScriptEvent::Cut(u, _) => u as usize,
-        ScriptEvent::KeyOff(u) => u as usize,
-        ScriptEvent::KeyOn(u) => u as usize,
-    }
+    unit_of(e).unwrap_or(0) as usize
 }
 
 fn place_or_first(k: u32) -> usize
@@ -79,12 +86,8 @@ pub fn event_place(e: ScriptEvent) -> usize
     ensures { result ≡ event_place e }
 {
     match e {
-        ScriptEvent::Malformed => 0,
-        ScriptEvent::Propose(_, _) => 0,
-        ScriptEvent::Deliver(_, k) => place_or_first(k),
-        ScriptEvent::Cut(_, k) => place_or_first(k),
-        ScriptEvent::KeyOff(_) => 0,
-        ScriptEvent::KeyOn(_) => 0,
+        ScriptEvent::Deliver(_, k) | ScriptEvent::Cut(_, k) => place_or_first(k),
+        _ => 0,
     }
 }
 
@@ -141,11 +144,11 @@ pub struct LineOutcome {
     pub decision: Estimate,
 }
 
-fn refused_outcome(refusal: Option<Refusal>) -> LineOutcome
-    ensures { result ≡ refused_outcome refusal }
+pub fn refused_outcome(why: Refusal) -> LineOutcome
+    ensures { result ≡ refused_outcome (Some why) }
 {
     LineOutcome {
-        refusal,
+        refusal: Some(why),
         sent: None,
         decision: Estimate::Blank,
     }
@@ -173,19 +176,19 @@ fn send_outcome(kept: u32, decision: Estimate) -> LineOutcome
     ensures { result ≡ send_outcome kept decision }
 {
     if no_place_left(kept) {
-        refused_outcome(Some(Refusal::Full))
+        refused_outcome(Refusal::Full)
     } else {
         accepted_outcome(Some(kept), decision)
     }
 }
 
 // What comes of a unit's answer, with that many messages kept.
-#[tactic(auto, using(tally::proofs::Refusals::refusal_number), unfolding(crate::specs::InnerTurns::outcome_of))]
+#[tactic(auto, unfolding(crate::specs::InnerTurns::outcome_of))]
 pub fn outcome_of(kept: u32, a: Answer) -> LineOutcome
     ensures { result ≡ outcome_of kept a }
 {
-    if a.refusal.is_some() {
-        return refused_outcome(a.refusal);
+    if let Some(why) = a.refusal {
+        return refused_outcome(why);
     }
     if messages::is_empty(a.message.kind) {
         accepted_outcome(None, a.decision)

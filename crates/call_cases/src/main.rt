@@ -8,6 +8,7 @@ use show::{JUNK, LogBytes, MessageBytes, PrintedUnit};
 use std::io;
 use tally::limits;
 
+// Letters and limits as numbers, by `as`: u32::from is no constant's.
 const B: u32 = b'B' as u32;
 
 const F: u32 = b'F' as u32;

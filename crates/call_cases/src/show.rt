@@ -45,6 +45,7 @@ impl<'a, P: Print> PrintedUnit<'a, P> {
         }
     }
 
+    // With the C entry's numbers one by one, of which some are to be refused.
     pub(crate) fn start(
         &mut self,
         name: &str,

@@ -17,7 +17,7 @@ use Rattle.contents.specs.Messages.{message_ok}
 use Rattle.contents.specs.declared.Log.{Log}
 use Rattle.contents.specs.declared.Message.{Message}
 use Rattle.formats.specs.Codes.{code_of, engine_of}
-use Rattle.formats.specs.Formats.{reading, Format, to_bytes}
+use Rattle.formats.specs.Formats.{reading, Format, read_bytes, to_bytes}
 use Rattle.formats.specs.Images.{image_format, read_image, image_bytes}
 use Rattle.formats.specs.Logs.{log_format, read_log}
 use Rattle.formats.specs.Messages.{message_format, read_message, empty_bytes, cleared}
@@ -52,33 +52,30 @@ pub record Started (l : Limits) (engine n unit entry : ℕ) (c : CallAnswer) : T
       ≡ called 0 (log_bytes l (unit_log (fresh (settings_for (Some known) n unit entry))))
       (image_bytes l (unit_image (fresh (settings_for (Some known) n unit entry)))) [] blank_code
 
-length_bytes : {A : Type 0} (f : Format A) (Typed : A → Type 0) (law : LawfulFormat f Typed) (a : A) → Typed a → f.ok a ≡ true
-    → length (to_bytes f a) ≡ f.size
-length_bytes f Typed law a t ok = length_pack f.widths _ (law.fit a t ok) ∙ sym law.sized
+-- an up unit is that of its log and image
+pub same_unit : (u : U.Unit) → u.power ≡ Up → up_unit (unit_log u) (unit_image u) ≡ u
+same_unit u up =
+    ap (λ p. record { power = p; settings = u.settings; logged = u.logged; current = u.current; checks = u.checks; seconds = u.seconds }) (sym up)
+
+-- the bytes of good contents are read as these, and have the format's size
+bytes_read : {A : Type 0} (f : Format A) (Typed : A → Type 0) (law : LawfulFormat f Typed) (a : A) → Typed a → f.ok a ≡ true
+    → (read_bytes f (to_bytes f a) ≡ reading 0 a) × (length (to_bytes f a) ≡ f.size)
+bytes_read f Typed law a t ok = (read_written f Typed law a t ok, length_pack f.widths _ (law.fit a t ok) ∙ sym law.sized)
 
 module _ (l : Limits) (sane : Sane l) where
   pub read_log_lem : (r : Log) → log_ok l r ≡ true → (read_log l (log_bytes l r) ≡ reading 0 r) × (length (log_bytes l r) ≡ log_size l)
   unfolding read_log log_bytes
-  read_log_lem r ok = (
-    read_written (log_format l) (λ r. Unit) (log.lawful l sane) r tt ok,
-    length_bytes (log_format l) (λ r. Unit) (log.lawful l sane) r tt ok,
-  )
+  read_log_lem r ok = bytes_read (log_format l) (λ r. Unit) (log.lawful l sane) r tt ok
 
   pub read_image_lem : (u : U.Unit) → WellFormed l u
       → (read_image l (image_bytes l (unit_image u)) ≡ reading 0 (unit_image u)) × (length (image_bytes l (unit_image u)) ≡ image_size l)
   unfolding read_image image_bytes
-  read_image_lem u w = (
-    read_written (image_format l) _ (image.lawful l sane) (unit_image u) (w.checks, w.seconds) w.image,
-    length_bytes (image_format l) _ (image.lawful l sane) (unit_image u) (w.checks, w.seconds) w.image,
-  )
+  read_image_lem u w = bytes_read (image_format l) _ (image.lawful l sane) (unit_image u) (w.checks, w.seconds) w.image
 
   pub read_message_lem : (m : Message) → message_ok l m ≡ true
       → (read_message l (to_bytes (message_format l) m) ≡ reading 0 m) × (length (to_bytes (message_format l) m) ≡ message_size l)
   unfolding read_message
-  read_message_lem m ok = (
-    read_written (message_format l) (λ m. Unit) (message.lawful l sane) m tt ok,
-    length_bytes (message_format l) (λ m. Unit) (message.lawful l sane) m tt ok,
-  )
+  read_message_lem m ok = bytes_read (message_format l) (λ m. Unit) (message.lawful l sane) m tt ok
 
   -- the conditions of a unit's bytes
   module _ (u : U.Unit) (w : WellFormed l u) where
@@ -117,11 +114,6 @@ module _ (l : Limits) (sane : Sane l) where
         go k false e = refl
 
     module _ (up : u.power ≡ Up) where
-      -- an up unit is that of its log and image
-      same_unit : up_unit (unit_log u) (unit_image u) ≡ u
-      same_unit =
-          ap (λ p. record { power = p; settings = u.settings; logged = u.logged; current = u.current; checks = u.checks; seconds = u.seconds }) (sym up)
-
       module _ (m : Message) (out : List ℕ) (ok : message_ok l m ≡ true) (size : length out ≡ message_size l) where
         deliver_conditions_lem : first_refusal (deliver_call_conditions l log_b image_b (to_bytes (message_format l) m) out)
             ≡ first_refusal (deliver_conditions l u m)
@@ -136,7 +128,7 @@ module _ (l : Limits) (sane : Sane l) where
               (read_message_lem m ok).0,
               (read_log_lem (unit_log u) w.log).0,
               (read_image_lem u w).0,
-              same_unit,
+              same_unit u up,
               up,
               ok,
             )
@@ -145,7 +137,7 @@ module _ (l : Limits) (sane : Sane l) where
             ≡ answered l (deliver l u m)
         unfolding deliver_call deliver
         deliver_encoded =
-            rw ((read_message_lem m ok).0, (read_log_lem (unit_log u) w.log).0, (read_image_lem u w).0, same_unit)
+            rw ((read_message_lem m ok).0, (read_log_lem (unit_log u) w.log).0, (read_image_lem u w).0, same_unit u up)
             (same_answer (deliver_call_conditions l log_b image_b (to_bytes (message_format l) m) out) (deliver_conditions l u m) (received u m) out
             deliver_conditions_lem (plain_received u m).none size)
 
@@ -157,7 +149,7 @@ module _ (l : Limits) (sane : Sane l) where
         pub propose_encoded : propose_call l log_b image_b v out ≡ answered l (propose l u v)
         unfolding propose_call propose
         propose_encoded =
-            rw ((read_log_lem (unit_log u) w.log).0, (read_image_lem u w).0, same_unit)
+            rw ((read_log_lem (unit_log u) w.log).0, (read_image_lem u w).0, same_unit u up)
             (ap₂ (λ (r : Log) (d : ℕ).
             unless_refused l (propose_call_conditions l log_b image_b v out) log_b image_b out
             (called 0 (log_bytes l r) (answered l (proposed u v)).image (answered l (proposed u v)).out d))

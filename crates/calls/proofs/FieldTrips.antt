@@ -1,5 +1,6 @@
 -- The calls over any lawful format: what writing contents answers, and both round trips between fields and bytes. Assumes nothing.
 use Rattle.std.specs.Prelude.{Some}
+use Rattle.std.proofs.lemmas.Bool.{and_parts}
 use Prim.Native.Nat.{ℕ, ◌+◌, ◌≤◌}
 use mathlib.Core.Path.{◌≡◌, refl, sym, ap}
 use mathlib.Core.Bool.{Bool, true, false, cond, ◌&&◌}
@@ -9,13 +10,13 @@ use lib.Dec.{eqb}
 use lib.ListN.{length, drop_of_length-le}
 use lib.Seq.{sets, sets-eq}
 use borrow.Author.Tests.{eq-eqb, ne_eqb, eqb-true, eqb-false}
-use Rattle.contents.proofs.Tests.{both_true}
 use Rattle.formats.specs.Formats.{ReadAnswer, reading, wrote, Format, with_zero, checked, from_numbers, read_bytes, to_bytes, write_bytes}
 use Rattle.formats.specs.Numbers.{Bytes, pack}
 use Rattle.formats.proofs.Packed.{Fit}
 use Rattle.tally.specs.Refusal.{number_of}
 use Rattle.tally.specs.declared.Refusal.TheVariants.{Length}
 use Rattle.formats.proofs.RoundTrips.{LawfulFormat, from_numbers_lem, numbers_back, read_numbers, read_written, written_read, refused_number}
+use Rattle.formats.proofs.Steps.{was_read}
 use Rattle.formats.specs.Logs.{log_format}
 use Rattle.formats.specs.Messages.{message_format, cleared}
 use Rattle.formats.proofs.LogFormat as log
@@ -61,9 +62,6 @@ module _ {A : Type 0} (f : Format A) (law : LawfulFormat f (λ a. Unit)) where
   pub field_trip : (kept : List ℕ → List ℕ) → FieldTrip f.fields f.size (read_call f) (λ fs bs. write_call f fs (kept bs) bs)
   field_trip kept = record { back = back; same = same }
     where
-      accepted : (r : ReadAnswer A) → eqb r.number 0 ≡ true → r ≡ reading 0 r.contents
-      accepted r e = rw (← eqb-true r.number 0 e)
-
       back : (fs bs out : List ℕ) → (write_call f fs (kept bs) bs).number ≡ 0 → length out ≡ f.fields
           → read_call f (write_call f fs (kept bs) bs).out out ≡ wrote 0 fs
       back fs bs out e len = go (eqb (length fs) f.fields && eqb (length bs) f.size) refl e
@@ -81,8 +79,8 @@ module _ {A : Type 0} (f : Format A) (law : LawfulFormat f (λ a. Unit)) where
                   → read_call f (cond t (wrote 0 (to_bytes f r.contents)) (wrote r.number (kept bs))).out out ≡ wrote 0 fs
               by false n e = absurd (eqb-false r.number 0 n e)
               by true n e =
-                  let many = eqb-true (length fs) f.fields (both_true (eqb (length fs) f.fields) (eqb (length bs) f.size) l).0 in
-                  let g = numbers_back f (λ a. Unit) law fs r.contents many (accepted r n) in
+                  let many = eqb-true (length fs) f.fields (and_parts (eqb (length fs) f.fields) (eqb (length bs) f.size) l).0 in
+                  let g = numbers_back f (λ a. Unit) law fs r.contents many (was_read r n) in
                   rw (eq-eqb (length out) f.fields len, read_written f (λ a. Unit) law r.contents tt g.0) (ap (wrote 0) g.1)
 
       same : (bs fs out : List ℕ) → Bytes bs → (read_call f bs fs).number ≡ 0 → length out ≡ f.size
@@ -101,7 +99,7 @@ module _ {A : Type 0} (f : Format A) (law : LawfulFormat f (λ a. Unit)) where
                   → write_call f (cond t (wrote 0 (f.numbers r.contents)) (wrote r.number fs)).out (kept out) out ≡ wrote 0 bs
               by false n e = absurd (eqb-false r.number 0 n e)
               by true n e =
-                  let g = written_read f (λ a. Unit) law bs r.contents b (accepted r n) in
+                  let g = written_read f (λ a. Unit) law bs r.contents b (was_read r n) in
                   rw (
                     eq-eqb (length (f.numbers r.contents)) f.fields (law.each r.contents tt),
                     eq-eqb (length out) f.size len,

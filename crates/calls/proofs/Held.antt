@@ -1,13 +1,17 @@
 -- What the bytes of a log and of an image that fits it hold. Assumes nothing.
-use Rattle.std.specs.Prelude.{Some, None}
+use Rattle.std.specs.Prelude.{Option, Some, None, Err}
+use Rattle.std.specs.Option.{ok_or}
+use Rattle.std.proofs.lemmas.Bool.{and_parts}
 use Prim.Native.Nat.{ℕ}
 use mathlib.Core.Path.{◌≡◌, refl, sym, ap, ◌∙◌}
-use mathlib.Core.Bool.{Bool, true, false, not, cond, ◌&&◌}
-use mathlib.Core.List.{List}
+use mathlib.Core.Bool.{Bool, true, false, ◌&&◌}
+use mathlib.Core.List.{List, ◌∷◌}
 use lib.Dec.{eqb}
 use lib.ListN.{length}
-use borrow.Author.Tests.{eqb-true, eq-eqb}
-use Rattle.tally.specs.Limits.{today, message_size}
+use borrow.Author.Tests.{eq-eqb}
+use Rattle.tally.specs.Limits.{today, log_size, message_size, blank_code}
+use Rattle.tally.specs.Refusal.{number_of}
+use Rattle.tally.specs.declared.Refusal.{Refusal}
 use Rattle.tally.proofs.Bounds.{sane_today}
 use Rattle.tally.proofs.Never.{never}
 use Rattle.contents.specs.Images.{image_ok, fits}
@@ -19,35 +23,40 @@ use Rattle.contents.specs.declared.Message.{Message}
 use Rattle.contents.specs.declared.Settings.{Settings}
 use Rattle.contents.specs.declared.State.{State}
 use Rattle.contents.proofs.Same.{same_settings_lem}
-use Rattle.contents.proofs.Tests.{both_true}
-use Rattle.formats.specs.Formats.{ReadAnswer, reading, to_bytes}
+use Rattle.formats.specs.Formats.{reading, to_bytes}
 use Rattle.formats.specs.Images.{TypedImage, image_format, image_bytes, read_image}
 use Rattle.formats.specs.InnerImages.{fit_state, checks_at, seconds_at, tally_from}
-use Rattle.formats.specs.Logs.{log_format, read_log}
+use Rattle.formats.specs.Logs.{log_format, no_log, read_log}
 use Rattle.formats.specs.Messages.{message_format, read_message, empty_bytes, cleared}
 use Rattle.formats.specs.Numbers.{Bytes}
 use Rattle.formats.proofs.ImageFormat as images
 use Rattle.formats.proofs.LogFormat as logs
 use Rattle.formats.proofs.MessageFormat as messages
-use Rattle.formats.proofs.Places.{checks_read, seconds_read}
+use Rattle.formats.proofs.Places.{fit_none, fit_some, checks_read, seconds_read}
 use Rattle.formats.proofs.RoundTrips.{written_read}
+use Rattle.formats.proofs.Steps.{was_read}
+use Rattle.consensus.specs.Conditions.{Condition, condition, first_refusal}
 use Rattle.consensus.specs.Methods.{propose, deliver}
 use Rattle.consensus.specs.Units.{WellFormed, unit_log, unit_image, up_unit}
 use Rattle.consensus.specs.declared.Power.TheVariants.{Up}
 use Rattle.consensus.specs.declared.Unit as U
-use Rattle.calls.specs.Calls.{answered, bad_log, bad_image, log_bytes, unit_of, propose_call, deliver_call}
+use Rattle.calls.specs.Calls.{CallAnswer, called, answered, unless_refused, bad_log, bad_image, log_bytes, unit_of, propose_call, deliver_call}
+use Rattle.calls.proofs.Entries.{log_refused}
 use Rattle.calls.proofs.Encoded.{propose_encoded, deliver_encoded}
-
--- contents that were read with the number 0
-pub was_read : {A : Type 0} (r : ReadAnswer A) → eqb r.number 0 ≡ true → r ≡ reading 0 r.contents
-was_read r e = rw (← eqb-true r.number 0 e)
 
 -- an image that fits has the log's settings, and so is the image of the unit
 pub fit_image : (i : Image) (r : Log) → fits i r ≡ true → unit_image (up_unit r i) ≡ i
 unfolding fits
 fit_image i r h =
     ap (λ (x : Settings). record { settings = x; state = i.state; checks = i.checks; seconds = i.seconds })
-    (sym (same_settings_lem i.settings r.settings (both_true _ _ h).0))
+    (sym (same_settings_lem i.settings r.settings (and_parts _ _ h).0))
+
+-- and well formed where log and image are
+pub fit_well_formed : (i : Image) (r : Log) → log_ok today r ≡ true → image_ok today i ≡ true → TypedImage i → fits i r ≡ true
+    → WellFormed today (up_unit r i)
+fit_well_formed i r log image typed fit =
+    let same = fit_image i r fit in
+    record { log = log; image = ap (image_ok today) same ∙ image; fit = ap (λ (x : Image). fits x r) same ∙ fit; checks = typed.0; seconds = typed.1 }
 
 -- what was read is well formed, and has these bytes
 log_back : (log : List ℕ) (r : Log) → Bytes log → read_log today log ≡ reading 0 r → (log_ok today r ≡ true) × (log_bytes today r ≡ log)
@@ -87,23 +96,13 @@ module _ (log image : List ℕ) (r : Log) (read : reading 0 r ≡ read_log today
 
   -- an image that does not fit it
   pub image_bad : fit_state (read_image today image) r ≡ None → bad_image today log image ≡ true
-  unfolding fit_state bad_image
-  image_bad h = rw (← read) (go test h)
-    where
-      go : (b : Bool) → cond b (Some (read_image today image).contents.state) None ≡ None → not b ≡ true
-      go true e = never cc
-      go false e = refl
+  unfolding bad_image
+  image_bad h = rw (← read, fit_none (read_image today image) r h)
 
   -- an image that does
   module _ (s : State) (fit : fit_state (read_image today image) r ≡ Some s) where
     tested : (test ≡ true) × ((read_image today image).contents.state ≡ s)
-    unfolding fit_state
-    tested = go test refl fit
-      where
-        go : (b : Bool) → test ≡ b → cond b (Some (read_image today image).contents.state) None ≡ Some s
-            → (test ≡ true) × ((read_image today image).contents.state ≡ s)
-        go true e h = (e, cc)
-        go false e h = never cc
+    tested = fit_some (read_image today image) r s fit
 
     pub image_good : bad_image today log image ≡ false
     unfolding bad_image
@@ -115,7 +114,7 @@ module _ (log image : List ℕ) (r : Log) (read : reading 0 r ≡ read_log today
 
       there : (eqb (read_image today image).number 0 ≡ true) × (fits i r ≡ true)
       unfolding i
-      there = both_true (eqb (read_image today image).number 0) (fits i r) tested.0
+      there = and_parts (eqb (read_image today image).number 0) (fits i r) tested.0
 
       back : (image_ok today i ≡ true) × (image_bytes today i ≡ image)
       unfolding i
@@ -140,21 +139,37 @@ module _ (log image : List ℕ) (r : Log) (read : reading 0 r ≡ read_log today
       pub held : Bytes log → Held log image (unit_of today log image)
       unfolding i
       held lb =
-          let same = fit_image i r there.1 in
           rw (← read)
           (record {
-            well_formed =
-                record {
-                  log = (log_back log r lb (sym read)).0;
-                  image = ap (image_ok today) same ∙ back.0;
-                  fit = ap (λ (x : Image). fits x r) same ∙ there.1;
-                  checks = typed.0;
-                  seconds = typed.1;
-                };
+            well_formed = fit_well_formed i r (log_back log r lb (sym read)).0 back.0 typed there.1;
             up = refl;
             log_bytes_lem = sym (log_back log r lb (sym read)).1;
-            image_bytes_lem = sym (ap (image_bytes today) same ∙ back.1);
+            image_bytes_lem = sym (ap (image_bytes today) (fit_image i r there.1) ∙ back.1);
           })
+
+-- ---- what is not read is refused, after the lengths
+
+none_err : {A : Type 0} (o : Option A) (why k : Refusal) → ok_or o why ≡ Err k → (o ≡ None) × (why ≡ k)
+none_err None why k e = (refl, cc)
+none_err (Some a) why k e = never cc
+
+module _ {log image out2 : List ℕ} {wrong : Bool} (out : List ℕ) (late : List Condition) (ok : CallAnswer)
+    (right : wrong ≡ false) (clear : out2 ≡ cleared today out) where
+  pub log_unread : (k : Refusal) → length log ≡ log_size today → reading (number_of (Some k)) no_log ≡ read_log today log
+      → called (number_of (Some k)) log image out2 blank_code
+      ≡ unless_refused today (condition Refusal.Length wrong ∷ condition Refusal.Log (bad_log today log) ∷ late) log image out ok
+  unfolding first_refusal
+  log_unread k size e = let r = log_refused today sane_today log k size e in rw (right, r.0, r.1, clear) refl
+
+  pub image_unread : (r : Log) → reading 0 r ≡ read_log today log → (k : Refusal) → ok_or (fit_state (read_image today image) r) Refusal.Image ≡ Err k
+      → called (number_of (Some k)) log image out2 blank_code
+      ≡ unless_refused today
+      (condition Refusal.Length wrong ∷ condition Refusal.Log (bad_log today log) ∷ condition Refusal.Image (bad_image today log image) ∷ late)
+      log image out ok
+  unfolding first_refusal
+  image_unread r read k e =
+      let none = none_err _ _ _ e in
+      rw (← none.1, right, log_good log r read, image_bad log image r read none.0, clear) refl
 
 -- ---- the calls of a unit that is held are its methods, as bytes
 

@@ -1,5 +1,5 @@
 -- Numbers too large for their bytes are refused, and the others fit the code's types. Assumes nothing.
-use Prim.Native.Nat.{ℕ, zero, suc, ◌^◌, ◌≤◌, ◌<◌}
+use Prim.Native.Nat.{ℕ, zero, suc, ◌^◌, ◌≤◌}
 use mathlib.Core.Path.{◌≡◌, refl, sym, ap, ◌∙◌}
 use mathlib.Core.Bool.{Bool, true, false, cond, ◌&&◌, and-true, false≢true}
 use mathlib.Core.List.{List, [], ◌∷◌, ◌++◌}
@@ -8,35 +8,11 @@ use native.Mathlib.Omega.{arith}
 use lib.Dec.{ltb}
 use lib.ListN.{length, get_or, take, drop, length-append}
 use lib.Seq.{get_or_at, append_snoc}
-use borrow.Author.Tests.{lt-ltb, ltb-true}
-use Rattle.contents.proofs.Tests as tests
+use borrow.Author.Tests.{lt-ltb}
 use Rattle.formats.specs.Formats.{reading, Format, with_zero, without, checked, from_numbers}
 use Rattle.formats.proofs.RoundTrips.{LawfulFormat, without_zero}
 use Rattle.formats.proofs.Packed.{Fit, fit_append}
-use Rattle.tally.specs.Limits.{Limits}
-use Rattle.formats.specs.Logs.{log_format}
-use Rattle.formats.specs.Messages.{message_format}
-use Rattle.calls.specs.InnerFields.{narrow, head_widths, log_head, log_narrow, message_head, message_narrow}
-
--- each number from place o on fits its width
-abbrev pub Small : ℕ → List ℕ → List ℕ → Type 0
-Small o [] vs = Unit
-Small o (w ∷ ws) vs = (get_or vs o 0 < 256 ^ w) × Small (suc o) ws vs
-
-small : (ok : Bool) (o : ℕ) (ws vs : List ℕ) → narrow ok o ws vs ≡ true → (ok ≡ true) × Small o ws vs
-small ok o [] vs h = (h, tt)
-small ok o (w ∷ ws) vs h =
-    let r = small (ok && ltb (get_or vs o 0) (256 ^ w)) (suc o) ws vs h in
-    let a = tests.both_true ok (ltb (get_or vs o 0) (256 ^ w)) r.0 in
-    (a.0, (ltb-true _ _ a.1, r.1))
-
-pub log_small : (l : Limits) (vs : List ℕ) → log_narrow l vs ≡ true → Small 0 (head_widths (log_format l) log_head) vs
-unfolding log_narrow
-log_small l vs h = (small true 0 (head_widths (log_format l) log_head) vs h).1
-
-pub message_small : (l : Limits) (vs : List ℕ) → message_narrow l vs ≡ true → Small 0 (head_widths (message_format l) message_head) vs
-unfolding message_narrow
-message_small l vs h = (small true 0 (head_widths (message_format l) message_head) vs h).1
+use Rattle.calls.specs.InnerFields.{narrow, head_widths}
 
 -- numbers that fit their widths are narrow
 fit_narrow : (ok : Bool) (ws vs p : List ℕ) (o k : ℕ) → length p ≡ o → Fit ws vs → narrow ok o (take k ws) (p ++ vs) ≡ ok
@@ -87,3 +63,12 @@ too_large f law vs k len wide = go (f.parse vs) refl
         by : (t : Bool) → f.ok a ≡ t → cond t (reading 0 a) (reading f.malformed f.nothing) ≡ reading f.malformed f.nothing
         by true ok = absurd (fits (rw (law.back vs a len p) at (law.fit a tt ok)))
         by false ok = refl
+
+-- what is taken of numbers that fit their bytes is all that is taken
+pub taken_narrow : {A : Type 0} (f : Format A) (law : LawfulFormat f (λ a. Unit)) (vs : List ℕ) (k : ℕ) → length vs ≡ f.fields
+    → checked f (cond (narrow true 0 (head_widths f k) vs) (f.parse vs) None) ≡ from_numbers f vs
+taken_narrow f law vs k len = go (narrow true 0 (head_widths f k) vs) refl
+  where
+    go : (t : Bool) → narrow true 0 (head_widths f k) vs ≡ t → checked f (cond t (f.parse vs) None) ≡ from_numbers f vs
+    go true e = refl
+    go false e = sym (too_large f law vs k len e)

@@ -48,14 +48,29 @@ use Rattle.calls.proofs.Held.{Held}
 -- ---- what is held of a well-formed unit is all of its tallies
 
 module _ (u : U.Unit) (w : WellFormed today u) where
-  all_checks : as_marked u.checks ≡ u.checks
+  pub all_checks : as_marked u.checks ≡ u.checks
   all_checks = as_marked_lem today false _ _ u.checks (image_facts today (unit_image u) w.image).checks w.checks
 
-  all_seconds : as_marked u.seconds ≡ u.seconds
+  pub all_seconds : as_marked u.seconds ≡ u.seconds
   all_seconds =
       as_marked_lem today (is_b u.settings.engine) _ _ u.seconds (image_facts today (unit_image u) w.image).seconds w.seconds
 
+-- a delivery keeps what is held of tallies whose marks stay, in its round
+pub deliver_stays : (u : U.Unit) (m : Message) → TalliesStay u (deliver today u m).unit
+unfolding deliver
+deliver_stays u m = by_unless (λ a. TalliesStay u a.unit) (deliver_conditions today u m) u (received u m) (tallies_stay u m) (λ k. tallies_same u)
+
 -- ---- what is written
+
+-- a message that is stored, or an empty one that is kept
+pub message_stored : (k : Kind) (m : Message) (kept out : List ℕ) → kept ≡ empty_bytes today → length out ≡ message_size today
+    → cond (is_empty k) kept (stored (message_format today) m out) ≡ message_bytes today k m
+unfolding message_bytes
+message_stored Empty m kept out empty size = empty
+message_stored First m kept out empty size = stored_contents (message_format today) out m size
+message_stored Check m kept out empty size = stored_contents (message_format today) out m size
+message_stored Second m kept out empty size = stored_contents (message_format today) out m size
+message_stored Skip m kept out empty size = stored_contents (message_format today) out m size
 
 module _ (log image : List ℕ) (u : U.Unit) (h : Held log image u) where
   w : WellFormed today u
@@ -81,18 +96,8 @@ module _ (log image : List ℕ) (u : U.Unit) (h : Held log image u) where
 
   module _ (out : List ℕ) (empty : out ≡ empty_bytes today) where
     message_there : (m : Message) → stored_message m out ≡ message_bytes today m.kind m
-    unfolding stored_message message_bytes
-    message_there m = go m.kind
-      where
-        size : length out ≡ message_size today
-        size = ap length empty ∙ length-replicate {A = ℕ} (message_size today) 0
-
-        go : (k : Kind) → cond (is_empty k) out (stored (message_format today) m out) ≡ message_bytes today k m
-        go Empty = empty
-        go First = stored_contents (message_format today) out m size
-        go Check = stored_contents (message_format today) out m size
-        go Second = stored_contents (message_format today) out m size
-        go Skip = stored_contents (message_format today) out m size
+    unfolding stored_message
+    message_there m = message_stored m.kind m out out empty (ap length empty ∙ length-replicate {A = ℕ} (message_size today) 0)
 
     -- a refusal stores nothing, and the answer is the unit's own
     refused_there : (cs : List Condition) (a : Answer) → a.refusal ≡ None → eqb (number_of (unless cs u a).refusal) 0 ≡ false
@@ -111,9 +116,6 @@ module _ (log image : List ℕ) (u : U.Unit) (h : Held log image u) where
         a : Answer
         a = deliver today u m
 
-        kept : TalliesStay u a.unit
-        kept = by_unless (λ a. TalliesStay u a.unit) (deliver_conditions today u m) u (received u m) (tallies_stay u m) (λ k. tallies_same u)
-
         go : (b : Bool) → eqb (number_of a.refusal) 0 ≡ b
             → cond b (called (number_of a.refusal) (stored (log_format today) (unit_log a.unit) log)
             (in_image (image_over a.unit.current a.unit.checks a.unit.seconds) image) (stored_message a.message out) (code_of a.decision))
@@ -122,7 +124,7 @@ module _ (log image : List ℕ) (u : U.Unit) (h : Held log image u) where
         go true e =
             let s = sound_deliver today u m w in
             let long = ap length h.log_bytes_lem ∙ (read_log_lem today sane_today (unit_log u) w.log).1 in
-            rw (log_stored today (unit_log a.unit) log long, over a.unit s.unit s.settings kept, message_there a.message)
+            rw (log_stored today (unit_log a.unit) log long, over a.unit s.unit s.settings (deliver_stays u m), message_there a.message)
 
     -- ---- a proposal
 

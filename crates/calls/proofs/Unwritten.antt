@@ -1,4 +1,5 @@
 -- A step that writes no log leaves the old one whole, and one that changes no image its image: to the last byte. Assumes nothing.
+use Rattle.std.proofs.lemmas.Bool.{and_parts}
 use Prim.Native.Nat.{ℕ, ◌<◌}
 use mathlib.Core.Path.{◌≡◌, refl, ap, ◌∙◌}
 use mathlib.Core.Bool.{Bool, true, false, cond}
@@ -8,7 +9,6 @@ use borrow.Author.Tests.{eqb-false, not-false}
 use Rattle.tally.specs.Limits.{Limits, Sane, blank_code}
 use Rattle.tally.specs.Refusal.{number_of}
 use Rattle.contents.specs.Images.{fits}
-use Rattle.contents.proofs.Tests.{both_true}
 use Rattle.formats.specs.Images.{image_format, read_image, image_bytes}
 use Rattle.formats.specs.Logs.{log_format, read_log}
 use Rattle.formats.specs.Messages.{read_message, cleared}
@@ -22,7 +22,8 @@ use Rattle.consensus.specs.Units.{unit_log, unit_image}
 use Rattle.consensus.specs.declared.Answer.{Answer}
 use Rattle.consensus.proofs.Laws.{received_below}
 use Rattle.calls.specs.Calls.{CallAnswer, called, unless_refused, bad_log, bad_image, log_bytes, unit_of, deliver_call_conditions, deliver_call}
-use Rattle.calls.proofs.Held.{was_read, fit_image}
+use Rattle.formats.proofs.Steps.{was_read}
+use Rattle.calls.proofs.Held.{fit_image}
 use Rattle.calls.proofs.Refusals.{deliver_refusing}
 
 -- a call whose number is 0 gives its answer
@@ -54,7 +55,7 @@ module _ (l : Limits) (sane : Sane l) (log image message out : List ℕ) (number
   unfolding deliver_call_conditions bad_image
   read_image_lem =
       let i = (read_image l image).contents in
-      let a = both_true (eqb (read_image l image).number 0) (fits i (read_log l log).contents) (not-false _ cs.1.1.0) in
+      let a = and_parts (eqb (read_image l image).number 0) (fits i (read_log l log).contents) (not-false _ cs.1.1.0) in
       (a.0, fit_image i (read_log l log).contents a.1)
 
   pub image_stays : Bytes image → unit_image (received (unit_of l log image) (read_message l message).contents).unit ≡ unit_image (unit_of l log image)

@@ -2,6 +2,7 @@
 use Rattle.std.specs.Prelude.{ℕ, ◌^◌, Bool, cond, ◌&&◌, List, [], eqb, ltb, Option, Some, None}
 use Rattle.tally.specs.Limits.{today, blank_code}
 use Rattle.tally.specs.Refusal.{number_of}
+use Rattle.tally.specs.declared.Engine.{Engine}
 use Rattle.contents.specs.Messages.{is_empty}
 use Rattle.contents.specs.declared.Message.{Message}
 use Rattle.contents.specs.declared.Settings.{Settings}
@@ -17,6 +18,11 @@ use Rattle.calls.specs.Calls.{CallAnswer, called, bad_settings, settings_for}
 -- the numbers of a start fit the code's types
 unfoldable pub settings_narrow : ℕ → ℕ → ℕ → ℕ → Bool
 settings_narrow engine n unit entry = ltb engine (256 ^ 1) && ltb n (256 ^ 1) && ltb unit (256 ^ 1) && ltb entry (256 ^ 2)
+
+-- settings of a known engine, in range or not
+unfoldable pub settings_known : Option Engine → ℕ → ℕ → ℕ → Option Settings
+settings_known None n unit entry = None
+settings_known (Some e) n unit entry = Some (record { engine = e; n = n; unit = unit; entry = entry })
 
 -- the settings of a start's numbers, where they are in range
 abbrev pub settings_from : ℕ → ℕ → ℕ → ℕ → Option Settings

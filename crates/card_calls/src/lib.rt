@@ -3,11 +3,12 @@
 
 pub mod buffers;
 
-ghost use Rattle.std.specs.Prelude.{◌≡◌, ◌<◌, ◌+◌, IfOk, IfErr, Some, None};
+ghost use Rattle.std.specs.Prelude.{◌≡◌, ◌<◌, ◌+◌, true, IfOk, IfErr, Some, None, Ok};
 ghost use Rattle.std.specs.Result.{result_err};
 ghost use Rattle.tally.specs.Limits.{today};
+ghost use Rattle.contents.specs.Logs.{log_ok};
 ghost use Rattle.cards.specs.Calls.{wrong_count, names_no_row};
-ghost use Rattle.cards.specs.InnerSteps.{settings_read, own_log, tells, row_answer, row_answered, takes, with_log, act_of, step_of, is_short, is_malformed};
+ghost use Rattle.cards.specs.InnerSteps.{settings_read, own_log, tells, row_answer, row_stored, takes, with_log, act_of, step_of};
 ghost use Rattle.cards.specs.InnerSteps.{front, card_told, card_rows};
 
 use cards::{Act, CardCall, CardRow, Told, UnitStep};
@@ -23,6 +24,7 @@ fn wrong_count(count: usize) -> bool
     !(limits::MIN_ROWS..=limits::MAX_ROWS).contains(&count)
 }
 
+// By `as`: std has no From of a u32 for usize.
 fn wide(x: u32) -> usize
     ensures { result ≡ x }
 {
@@ -36,44 +38,20 @@ fn names_no_row(count: usize, k: u32) -> bool
     !(1..=count).contains(&wide(k))
 }
 
-fn is_short(act: Act) -> bool
-    ensures { result ≡ is_short act }
-{
-    matches!(act, Act::WrongLength)
-}
-
-fn is_malformed(act: Act) -> bool
-    ensures { result ≡ is_malformed act }
-{
-    matches!(act, Act::Malformed)
-}
-
-// Why a call has no row, where it has none.
+// What is asked, and where its row stands, or why it has none. The number of rows is enough: on_row alone has the rows.
 #[tactic(auto, unfolding(cards::specs::InnerSteps::front, cards::specs::InnerSteps::front_conditions, consensus::specs::Conditions::first_refusal))]
-fn front(c: &CardCall, count: usize) -> Option<Refusal>
-    ensures { result ≡ front c.now count }
+fn place(asked: Result<CardCall, Refusal>, count: usize) -> Result<(CardCall, usize), Refusal>
+    ensures row { IfOk result (λ p. (asked ≡ Ok p.0) × (front asked count ≡ None) × (p.1 + 1 ≡ p.0.row) × (p.1 < count)) }
+    ensures none { IfErr result (λ why. front asked count ≡ Some why) }
 {
-    if wrong_count(count) | is_short(c.act) {
-        return Some(Refusal::Length);
+    if wrong_count(count) {
+        return Err(Refusal::Length);
     }
-    if is_malformed(c.act) {
-        return Some(Refusal::Message);
-    }
+    let c = asked?;
     if names_no_row(count, c.row) {
-        return Some(Refusal::Row);
+        return Err(Refusal::Row);
     }
-    None
-}
-
-// Where the row of a call stands, or why it has none. The number of rows is enough: on_row alone has the rows.
-fn place(c: &CardCall, count: usize) -> Result<usize, Refusal>
-    ensures row { IfOk result (λ k. (front c.now count ≡ None) × (k + 1 ≡ c.now.row) × (k < count)) }
-    ensures none { IfErr result (λ why. front c.now count ≡ Some why) }
-{
-    match front(c, count) {
-        Some(why) => Err(why),
-        None => Ok(wide(c.row) - 1),
-    }
+    Ok((c, wide(c.row) - 1))
 }
 
 fn tells(refusal: Option<Refusal>) -> Told
@@ -86,7 +64,7 @@ fn tells(refusal: Option<Refusal>) -> Told
     }
 }
 
-// ---- the step of a row
+// ---- the step of a row: functions of the call and its row, and no methods, since both types are of crate cards, which has no code
 // The settings beside the card, with the row's number as the entry.
 fn settings_read(c: &CardCall) -> Option<Settings>
     ensures { result ≡ settings_read c.now }
@@ -94,9 +72,8 @@ fn settings_read(c: &CardCall) -> Option<Settings>
     numbers::settings_from(c.engine, c.n, c.unit, c.row)
 }
 
-// The log of a row, of these settings. Inlined, since the stack of key-on and of a proposal is else above what the header says.
+// The log of a row, of these settings.
 #[tactic(auto, unfolding(cards::specs::Calls::bad_row_log, cards::specs::Rows::row_log, cards::specs::Calls::other_row))]
-#[inline(always)]
 fn own_log(c: &CardCall, r: &CardRow) -> Result<Log, Refusal>
     ensures { result ≡ own_log today c.now r.now }
 {
@@ -109,23 +86,17 @@ fn own_log(c: &CardCall, r: &CardRow) -> Result<Log, Refusal>
     }
 }
 
-// An accepted answer changes the row.
+// An accepted answer is stored in the row.
 #[inline(always)]
 fn answered(row: &mut CardRow, a: &Answer) -> Told
-    ensures { row_answer row.new result ≡ row_answered row.old a.now }
+    ensures { row_answer row.new result ≡ row_stored row.old a.now }
 {
     if a.refusal.is_some() {
         return tells(a.refusal);
     }
-    *row = card_rows::row_of(
-        a.unit.settings,
-        a.unit.logged,
-        a.unit.current,
-        &a.unit.checks,
-        &a.unit.seconds,
-    );
+    card_rows::put_unit(&a.unit, row);
     Told {
-        refusal: a.refusal,
+        refusal: None,
         message: a.message,
         decision: a.decision,
     }
@@ -144,7 +115,7 @@ fn start(c: &CardCall, r: &mut CardRow) -> Result<(), Refusal>
 fn key_on(c: &CardCall, r: &mut CardRow) -> Result<(), Refusal>
     ensures { row_answer r.new (tells (result_err result)) ≡ act_of today Act.KeyOn c.now r.old }
 {
-    let l = own_log(c, &*r)?;
+    let l = own_log(c, r)?;
     *r = card_rows::unmarked(l);
     Ok(())
 }
@@ -161,12 +132,13 @@ fn taken(u: Unit, s: UnitStep) -> Answer
     }
 }
 
-// A step of the unit that a log and a row's image make.
+// A step of the unit that a well-formed log and a row's image make. What it stores is the unit's row since the log is well formed, so that is asked.
 #[tactic(auto, using(cards::proofs::Steps::row_unfit, cards::proofs::Steps::row_fit))]
 fn with_log(l: Log, r: &mut CardRow, s: UnitStep) -> Told
+    requires { log_ok today l ≡ true }
     ensures { row_answer r.new result ≡ with_log today s l r.old }
 {
-    let Some(state) = card_rows::state_for(&*r, l) else {
+    let Some(state) = card_rows::state_for(r, l) else {
         return tells(Some(Refusal::Image));
     };
     let u = Unit::up(
@@ -178,14 +150,15 @@ fn with_log(l: Log, r: &mut CardRow, s: UnitStep) -> Told
     answered(r, &taken(u, s))
 }
 
-// A step of the row's unit, whose own refusal stands in what is told.
-#[tactic(auto, using(cards::proofs::Steps::unit_step))]
+// A step of the row's unit, whose own refusal stands in what is told. A match: with a Result and `?`, of this and `with_log` in one, a proposal used 2,112
+// bytes of stack where the gate lets 2,048 pass.
+#[tactic(auto, using(cards::proofs::Steps::unit_step, cards::proofs::Stored::own_log_ok))]
 fn on_unit(c: &CardCall, r: &mut CardRow, s: UnitStep) -> Told
     ensures { row_answer r.new result ≡ act_of today (Act.Step s) c.now r.old }
 {
-    match own_log(c, &*r) {
-        Err(why) => tells(Some(why)),
+    match own_log(c, r) {
         Ok(l) => with_log(l, r, s),
+        Err(why) => tells(Some(why)),
     }
 }
 
@@ -195,8 +168,6 @@ fn step_row(c: &CardCall, r: &mut CardRow) -> Told
     ensures { row_answer r.new result ≡ step_of today c.now r.old }
 {
     match c.act {
-        Act::WrongLength => tells(Some(Refusal::Length)),
-        Act::Malformed => tells(Some(Refusal::Message)),
         Act::Start => tells(start(c, r).err()),
         Act::KeyOn => tells(key_on(c, r).err()),
         Act::Step(s) => on_unit(c, r, s),
@@ -205,12 +176,12 @@ fn step_row(c: &CardCall, r: &mut CardRow) -> Told
 
 // ---- on the card
 // The row is copied out, the step taken, and the row stored back.
-pub fn on_row(c: CardCall, rows: &mut [CardRow]) -> Told
-    ensures { (result ≡ card_told today c rows.old) × (rows.new ≡ card_rows today c rows.old) }
+pub fn on_row(asked: Result<CardCall, Refusal>, rows: &mut [CardRow]) -> Told
+    ensures { (result ≡ card_told today asked rows.old) × (rows.new ≡ card_rows today asked rows.old) }
 {
-    match place(&c, rows.len()) {
+    match place(asked, rows.len()) {
         Err(why) => tells(Some(why)),
-        Ok(k) => {
+        Ok((c, k)) => {
             let mut r = rows[k];
             let told = step_row(&c, &mut r);
             rows[k] = r;

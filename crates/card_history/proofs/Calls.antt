@@ -1,7 +1,8 @@
 -- What the calls do on a card whose row holds a well-formed unit. Assumes nothing.
 use Rattle.std.specs.Prelude.{None}
+use Rattle.std.proofs.lemmas.Bool.{and_parts}
 use Prim.Native.Nat.{ℕ, ◌-◌, ◌≤◌}
-use mathlib.Core.Path.{◌≡◌, refl, sym, ap, ap₂, subst, ◌∙◌}
+use mathlib.Core.Path.{◌≡◌, refl, sym, ap, subst, ◌∙◌}
 use mathlib.Core.Bool.{Bool, true, false}
 use mathlib.Core.List.{List}
 use native.Mathlib.Omega.{arith}
@@ -11,13 +12,10 @@ use lib.Seq.{get_or-set_same}
 use borrow.Author.Tests.{eqb-true, eqb-false, leb-true, not-false}
 use Rattle.tally.specs.Limits.{Limits, Sane}
 use Rattle.tally.specs.Refusal.{number_of}
-use Rattle.tally.specs.declared.Refusal.{Refusal}
 use Rattle.contents.specs.Logs.{settings_ok}
 use Rattle.contents.specs.Messages.{message_ok}
-use Rattle.contents.specs.declared.Image.{Image}
 use Rattle.contents.specs.declared.Log.{Log}
 use Rattle.contents.specs.declared.Message.{Message}
-use Rattle.contents.proofs.Tests.{both_true}
 use Rattle.formats.specs.Codes.{letter_of, code_of}
 use Rattle.formats.specs.Formats.{ReadAnswer, reading, from_numbers}
 use Rattle.formats.specs.Logs.{log_format}
@@ -26,7 +24,7 @@ use Rattle.formats.proofs.Letters.{engine_letter}
 use Rattle.consensus.specs.Conditions.{Condition, first_refusal, NoneHolds}
 use Rattle.consensus.specs.Methods.{for_other, out_of_range, closes_last, unless, propose_conditions, propose, deliver_conditions, deliver}
 use Rattle.consensus.specs.Step.{fresh, recovered, proposed, received}
-use Rattle.consensus.specs.Units.{WellFormed, unit_log, up_unit, down_unit, at_log}
+use Rattle.consensus.specs.Units.{WellFormed, unit_log, down_unit, at_log}
 use Rattle.consensus.specs.declared.Answer.{Answer}
 use Rattle.consensus.specs.declared.Power.TheVariants.{Up}
 use Rattle.consensus.specs.declared.Unit as U
@@ -39,6 +37,7 @@ use Rattle.cards.specs.Rows.{numbers_of, log_fields_of, row_log, row_unit, row_o
 use Rattle.cards.specs.declared.CardRow.{CardRow}
 use Rattle.cards.specs.declared.LogFields.{LogFields}
 use Rattle.cards.proofs.Calls.{start_on_row, key_on_on_row, propose_on_row, deliver_on_row}
+use Rattle.cards.proofs.Encoded.{unit_is}
 use Rattle.cards.proofs.Rows.{row_back}
 use Rattle.agreement.specs.Worlds.{Setup, settings_of}
 use Rattle.card_history.specs.Cards.{CardWorld, Call, starts, keys_on, proposes, delivers, lent_rows, card_of, run_call}
@@ -50,7 +49,7 @@ Names card k = names_no_row (length card) k ≡ false
 pub named : (card : List CardRow) (k : ℕ) → Names card k → (1 ≤ k) × (k ≤ length card)
 unfolding names_no_row
 named card k h =
-    let t = both_true (leb 1 k) (leb k (length card)) (not-false _ h) in
+    let t = and_parts (leb 1 k) (leb k (length card)) (not-false _ h) in
     (leb-true _ _ t.0, leb-true _ _ t.1)
 
 -- ---- any call
@@ -135,12 +134,7 @@ module _ (l : Limits) (sane : Sane l) where
 
   -- the unit of a row
   unit_back : (x : U.Unit) → WellFormed l x → x.power ≡ Up → (r : CardRow) → r ≡ row_of x → row_unit l r ≡ x
-  unit_back x wf on r e =
-      ap (row_unit l) e
-      ∙ ap₂ (λ (g : ReadAnswer Log) (i : ReadAnswer Image). up_unit g.contents i.contents) (row_back l sane x wf).0 (row_back l sane x wf).1
-      ∙ ap (λ p.
-      record { power = p; settings = x.settings; logged = x.logged; current = x.current; checks = x.checks; seconds = x.seconds })
-      (sym on)
+  unit_back x wf on r e = ap (row_unit l) e ∙ unit_is l sane x wf on
 
   -- an answer of the unit that the row holds
   does : (card : List CardRow) (k : ℕ) (cs : List Condition) (out : List ℕ) (r : CardRow) (x : Answer) (a : CardAnswer)

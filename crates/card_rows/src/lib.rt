@@ -9,12 +9,12 @@ ghost use Rattle.formats.specs.Formats.{from_numbers};
 ghost use Rattle.formats.specs.Images.{tally_of};
 ghost use Rattle.formats.specs.InnerImages.{fit_state};
 ghost use Rattle.formats.specs.Logs.{log_format};
-ghost use Rattle.consensus.specs.Units.{up_unit};
-ghost use Rattle.cards.specs.Rows.{numbers_of, marks_fit, row_tally, row_image, log_fields_of, tally_fields_of, row_of};
-ghost use Rattle.cards.specs.InnerSteps.{log_read_of, unmarked_row, row_fits};
+ghost use Rattle.cards.specs.Rows.{numbers_of, marks_fit, row_tally, row_image, log_fields_of, tally_fields_of};
+ghost use Rattle.cards.specs.InnerSteps.{log_read_of, unmarked_row, tally_over, row_over};
 
 use cards::{CardRow, LogFields, TallyFields};
-use contents::{Log, Settings, State};
+use consensus::Unit;
+use contents::{Log, State};
 use numbers::LogNumbers;
 use rules::images::StandingTally;
 use tally::{Estimate, Refusal, Tally, limits};
@@ -75,43 +75,26 @@ impl StandingTally for RowTally<'_> {
 
     #[tactic(auto, using(cards::proofs::Steps::row_estimate))]
     fn estimate(&self, sender: u8) -> Estimate {
-        codes::estimate_of(self.estimates[sender as usize])
+        codes::estimate_of(self.estimates[usize::from(sender)])
     }
-}
-
-// Are the tallies, beside these first contents of an image, well formed, and does all of it fit the log?
-#[tactic(auto, unfolding(contents::specs::Images::fits))]
-fn row_fits(r: &CardRow, front: Log, log: Log) -> bool
-    ensures { result ≡ row_fits today r.now front log }
-{
-    let (Some(checks), Some(seconds)) = (marks_of(&r.checks), marks_of(&r.seconds)) else {
-        return false;
-    };
-    let checks = RowTally::new(checks, &r.checks.estimates);
-    let seconds = RowTally::new(seconds, &r.seconds.estimates);
-    rules::images::tallies_fit(front, &checks, &seconds, log)
 }
 
 // The state of a row's image that is well formed and fits the log.
-#[tactic(auto, using(cards::proofs::Steps::row_unread))]
+#[tactic(auto, using(cards::proofs::Steps::row_state), unfolding(contents::specs::Images::fits))]
 pub fn state_for(r: &CardRow, log: Log) -> Option<State>
     ensures { result ≡ fit_state (row_image today r.now) log }
 {
-    let Ok(front) = read_log(&r.image) else {
-        return None;
-    };
-    if row_fits(r, front, log) {
-        Some(front.state)
-    } else {
-        None
-    }
+    let front = read_log(&r.image).ok()?;
+    let checks = RowTally::new(marks_of(&r.checks)?, &r.checks.estimates);
+    let seconds = RowTally::new(marks_of(&r.seconds)?, &r.seconds.estimates);
+    rules::images::tallies_fit(front, &checks, &seconds, log).then_some(front.state)
 }
 
-// Sixteen blanks are known in one pass. An array's `map` takes 1.4 times the instructions of the loop. Public, so that its marks are a row's 32 bits: 16
-// would be a narrower type.
+// Sixteen blanks are known in one pass. An array's `map` takes 1.4 times the instructions of the loop. It asks that the marks fit, which state_for has tested.
 pub fn tally_of(f: &TallyFields) -> Tally
     requires { f.now.marks < 2 ^ senders }
-    ensures { result ≡ row_tally f.now }
+    ensures same { result ≡ row_tally f.now }
+    ensures sixteen { length result.cells ≡ senders }
 {
     let mut tally = Tally {
         marks: f.marks as u16,
@@ -143,7 +126,8 @@ fn log_fields_of(l: Log) -> LogFields
     }
 }
 
-// By value: with the cells by reference, in a function of their own, a call takes a tenth more instructions and 500 bytes more of stack.
+// By a loop, as tally_of is. By value: with the cells by reference, in a function of their own, a call takes a tenth more instructions and 500 bytes more
+// of stack.
 fn tally_fields(t: Tally) -> TallyFields
     ensures { result ≡ tally_fields_of t }
 {
@@ -177,27 +161,34 @@ pub fn unmarked(l: Log) -> CardRow
     }
 }
 
-// The row of a unit, from the unit's parts.
-pub fn row_of(
-    settings: Settings,
-    logged: State,
-    current: State,
-    checks: &Tally,
-    seconds: &Tally,
-) -> CardRow
-    ensures { result ≡ row_of (up_unit (record { settings = settings; state = logged })
-        (record { settings = settings; state = current; checks = checks.now; seconds = seconds.now })) }
+// Stores a tally, unless the round is the same and the row has its marks already; without marks it is sixteen blanks. Inlined with its caller: else the
+// unit stands in memory once more, which takes 1,100 bytes more of stack and a quarter more instructions.
+#[tactic(auto, unfolding(tally::specs::Tally::no_marks))]
+#[inline(always)]
+fn put_changed(t: &Tally, same: bool, f: &mut TallyFields)
+    ensures { f.new ≡ tally_over same t.now f.old }
 {
-    CardRow {
-        log: log_fields_of(Log {
-            settings,
-            state: logged,
-        }),
-        image: log_fields_of(Log {
-            settings,
-            state: current,
-        }),
-        checks: tally_fields(*checks),
-        seconds: tally_fields(*seconds),
+    if same & (u32::from(t.marks) == f.marks) {
+        return;
     }
+    *f = if t.marks == 0 {
+        NO_TALLY
+    } else {
+        tally_fields(*t)
+    };
+}
+
+// Stores a unit in a row, and of its tallies those that the row does not have already.
+#[inline(always)]
+pub fn put_unit(u: &Unit, r: &mut CardRow)
+    ensures { r.new ≡ row_over u.now r.old }
+{
+    let same = u32::from(u.current.round) == r.image.round;
+    r.log = log_fields_of(u.log());
+    r.image = log_fields_of(Log {
+        settings: u.settings,
+        state: u.current,
+    });
+    put_changed(&u.checks, same, &mut r.checks);
+    put_changed(&u.seconds, same, &mut r.seconds);
 }

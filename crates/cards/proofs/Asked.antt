@@ -1,32 +1,31 @@
 -- What the calls ask of a row, and what is told, is the call's definition. Assumes nothing.
-use Rattle.std.specs.Prelude.{Option, Some}
-use Prim.Native.Nat.{ℕ, ◌-◌, ◌<◌}
+use Rattle.std.specs.Prelude.{Option, Some, Result, Ok, Err}
+use Prim.Native.Nat.{ℕ, ◌-◌}
 use mathlib.Core.Path.{◌≡◌, refl, sym, ap, ◌∙◌}
 use mathlib.Core.Bool.{Bool, true, false, cond, ◌||◌, or-true, or-false}
 use mathlib.Core.List.{List, [], ◌∷◌, ◌++◌}
-use native.Mathlib.Omega.{arith}
 use lib.Dec.{eqb}
 use lib.ListN.{length, set}
 use lib.Seq.{set-get_or}
-use borrow.Author.Tests.{le-leb, lt-leb, eqb-true, eqb-false, ne_eqb, not-false}
+use borrow.Author.Tests.{eqb-true, not-false}
 use Rattle.tally.specs.Limits.{today, blank_code, message_size}
 use Rattle.tally.specs.Refusal.{number_of}
 use Rattle.tally.specs.declared.Refusal.{Refusal}
 use Rattle.tally.proofs.Bounds.{sane_today}
-use Rattle.tally.proofs.Never.{never}
-use Rattle.contents.specs.Messages.{is_empty, message_ok}
-use Rattle.contents.specs.declared.Kind.{Kind}
-use Rattle.contents.specs.declared.Kind.TheVariants.{Empty, First, Check, Second, Skip}
+use Rattle.std.proofs.lemmas.Bool.{or_parts}
+use Rattle.tally.proofs.Refusals.{refusal_number}
+use Rattle.contents.specs.Messages.{message_ok}
 use Rattle.contents.specs.declared.Message.{Message}
 use Rattle.formats.specs.Formats.{reading}
-use Rattle.formats.specs.InnerFormats.{stored}
-use Rattle.formats.specs.Messages.{message_format, read_message, cleared}
+use Rattle.formats.specs.Messages.{read_message, cleared}
 use Rattle.consensus.specs.Conditions.{Condition, first_refusal}
 use Rattle.consensus.specs.Methods.{propose_conditions, deliver_conditions}
 use Rattle.consensus.specs.Step.{proposed, send_first}
 use Rattle.consensus.specs.declared.Answer.{Answer}
 use Rattle.calls.specs.Calls.{wrong_length, bad_message, message_bytes}
 use Rattle.calls.proofs.Entries.{message_ok_lem}
+use Rattle.calls.proofs.Held.{cleared_empty}
+use Rattle.calls.proofs.Stored.{message_stored}
 use Rattle.cards.specs.Calls.{CardAnswer, card_called, unless_card, answered_card, wrong_count, row_at, beside, card_start_conditions, card_start_call}
 use Rattle.cards.specs.Calls.{card_key_on_conditions, card_key_on_call, card_propose_conditions, card_propose_call, card_deliver_conditions, card_deliver_call}
 use Rattle.cards.specs.InnerSteps.{step_conditions, unit_conditions, unit_answer, step_answer, tells, told, row_answer, unless_row, step_of, front_conditions}
@@ -36,21 +35,20 @@ use Rattle.cards.specs.declared.Act.{Act}
 use Rattle.cards.specs.declared.CardCall.{CardCall}
 use Rattle.cards.specs.declared.CardRow.{CardRow}
 use Rattle.cards.specs.declared.UnitStep.{UnitStep}
-use Rattle.cards.proofs.Calls.{Named}
-use Rattle.cards.proofs.Steps.{front_row, place_at, place_none, unit_plain}
+use Rattle.cards.proofs.Steps.{unit_plain}
 
 -- ---- conditions in two parts
 
-first_append : (xs ys : List Condition) → Named xs
+first_append : (xs ys : List Condition)
     → first_refusal (xs ++ ys) ≡ cond (eqb (number_of (first_refusal xs)) 0) (first_refusal ys) (first_refusal xs)
 unfolding first_refusal
-first_append [] ys h = refl
-first_append (x ∷ xs) ys h = go x.holds (first_append xs ys h.1)
+first_append [] ys = refl
+first_append (x ∷ xs) ys = go x.holds (first_append xs ys)
   where
     go : (b : Bool) → first_refusal (xs ++ ys) ≡ cond (eqb (number_of (first_refusal xs)) 0) (first_refusal ys) (first_refusal xs)
         → cond b (Some x.refusal) (first_refusal (xs ++ ys))
         ≡ cond (eqb (number_of (cond b (Some x.refusal) (first_refusal xs))) 0) (first_refusal ys) (cond b (Some x.refusal) (first_refusal xs))
-    go true rest = rw (ne_eqb _ _ h.0)
+    go true rest = rw (refusal_number x.refusal)
     go false rest = rest
 
 -- calls with the same first condition
@@ -74,40 +72,29 @@ module _ (c : CardCall) (rows : List CardRow) (out : List ℕ) where
   a = step_answer today c.act c r
 
   abbrev pub conditions_of : List Condition
-  conditions_of = front_conditions c (length rows) ++ step_conditions today c.act c r
+  conditions_of = front_conditions (Ok c) (length rows) ++ step_conditions today c.act c r
 
   abbrev pub accepts : CardAnswer
   accepts = told_card today (set rows (c.row - 1) (row_of a.unit)) out (told a)
 
   first_is : first_refusal conditions_of
-      ≡ cond (eqb (number_of (front c (length rows))) 0) (first_refusal (step_conditions today c.act c r)) (front c (length rows))
+      ≡ cond (eqb (number_of (front (Ok c) (length rows))) 0) (first_refusal (step_conditions today c.act c r)) (front (Ok c) (length rows))
   unfolding front front_conditions
   first_is =
-      first_append (front_conditions c (length rows)) (step_conditions today c.act c r)
-      (λ h. omega (arith, h), (λ h. omega (arith, h), (λ h. omega (arith, h), tt)))
+      first_append (front_conditions (Ok c) (length rows)) (step_conditions today c.act c r)
 
-  -- refused before any row is read: 1, 4, 12
-  no_row_lem : eqb (number_of (front c (length rows))) 0 ≡ false
-      → told_card today (card_rows today c rows) out (card_told today c rows) ≡ unless_card today conditions_of rows out accepts
-  unfolding card_told card_rows put_message
-  no_row_lem z =
-      let p = place_none c (length rows) (eqb-false _ _ z) in
-      rw (p, le-leb (length rows) (length rows) (omega arith), first_is, z, z)
-
-  -- what the row says
-  on_row : eqb (number_of (front c (length rows))) 0 ≡ true
-      → told_card today (card_rows today c rows) out (card_told today c rows) ≡ unless_card today conditions_of rows out accepts
+  -- a call by value is its conditions in order, and else the step
+  pub asked : told_card today (card_rows today (Ok c) rows) out (card_told today (Ok c) rows) ≡ unless_card today conditions_of rows out accepts
   unfolding card_told card_rows step_of unless_row put_message
-  on_row z =
-      let zero = eqb-true _ _ z in
-      let p = place_at c (length rows) zero in
-      let k = front_row c (length rows) zero in
-      let below : c.row - 1 < length rows = omega (arith, k.0, k.1) in
-      rw (p, lt-leb (length rows) (c.row - 1) below, first_is, z) (by (eqb (number_of (first_refusal (step_conditions today c.act c r))) 0))
+  asked = rw first_is (go (eqb (number_of (front (Ok c) (length rows))) 0) refl)
     where
       k : Option Refusal
       k = first_refusal (step_conditions today c.act c r)
 
+      f : Option Refusal
+      f = front (Ok c) (length rows)
+
+      -- what the row says
       by : (t : Bool)
           → told_card today (set rows (c.row - 1) (cond t (row_answer (row_of a.unit) (told a)) (row_answer r (tells k))).row) out
           (cond t (row_answer (row_of a.unit) (told a)) (row_answer r (tells k))).told
@@ -115,14 +102,24 @@ module _ (c : CardCall) (rows : List CardRow) (out : List ℕ) where
       by true = refl
       by false = rw (set-get_or rows (c.row - 1) no_row)
 
-  -- a call by value is its conditions in order, and else the step
-  pub asked : told_card today (card_rows today c rows) out (card_told today c rows) ≡ unless_card today conditions_of rows out accepts
-  asked = go (eqb (number_of (front c (length rows))) 0) refl
-    where
-      go : (t : Bool) → eqb (number_of (front c (length rows))) 0 ≡ t
-          → told_card today (card_rows today c rows) out (card_told today c rows) ≡ unless_card today conditions_of rows out accepts
-      go true z = on_row z
-      go false z = no_row_lem z
+      go : (t : Bool) → eqb (number_of f) 0 ≡ t
+          → told_card today (cond t (set rows (c.row - 1) (step_of today c r).row) rows) out (cond t (step_of today c r).told (tells f))
+          ≡ cond (eqb (number_of (cond t k f)) 0) accepts (card_called (number_of (cond t k f)) rows (cleared today out) blank_code)
+      go true z = by (eqb (number_of k) 0)
+      go false z = rw z
+
+-- a call whose buffers are refused
+refused_asked : (x : Refusal) (rows : List CardRow) (out : List ℕ) (cs : List Condition) (ok : CardAnswer)
+    → first_refusal cs ≡ cond (wrong_count (length rows)) (Some Refusal.Length) (Some x)
+    → told_card today (card_rows today (Err x) rows) out (card_told today (Err x) rows) ≡ unless_card today cs rows out ok
+unfolding card_told card_rows front front_conditions first_refusal put_message
+refused_asked x rows out cs ok e = rw e (go (wrong_count (length rows)))
+  where
+    go : (b : Bool) → card_called (number_of (cond b (Some Refusal.Length) (Some x))) rows (cleared today out) blank_code
+        ≡ cond (eqb (number_of (cond b (Some Refusal.Length) (Some x))) 0) ok
+        (card_called (number_of (cond b (Some Refusal.Length) (Some x))) rows (cleared today out) blank_code)
+    go true = refl
+    go false = rw (refusal_number x)
 
 -- ---- a start and a key-on: no output buffer, and no decision
 
@@ -143,7 +140,7 @@ module _ (engine n unit k : ℕ) (rows : List CardRow) where
   -- what such a call says, from what it asks
   abbrev bare : Act → CardAnswer
   bare act =
-      let c = card_call engine n unit k act in card_called (number_of (card_told today c rows).refusal) (card_rows today c rows) [] blank_code
+      let x = Ok (card_call engine n unit k act) in card_called (number_of (card_told today x rows).refusal) (card_rows today x rows) [] blank_code
 
   bare_asked : (act : Act)
       → bare act
@@ -155,28 +152,23 @@ module _ (engine n unit k : ℕ) (rows : List CardRow) where
   start_asked =
       bare_asked Act.Start
       ∙ unless_same (conditions_of (card_call engine n unit k Act.Start) rows []) (card_start_conditions (beside engine n unit) k rows) rows [] _ _
-      (rw (or-false (wrong_count (length rows)))) (λ z. refl)
+      refl (λ z. refl)
 
   pub key_on_asked : bare Act.KeyOn ≡ card_key_on_call today (beside engine n unit) rows k
   unfolding card_key_on_call card_key_on_conditions front_conditions step_conditions step_answer first_refusal
   key_on_asked =
       bare_asked Act.KeyOn
       ∙ unless_same (conditions_of (card_call engine n unit k Act.KeyOn) rows []) (card_key_on_conditions today (beside engine n unit) k rows) rows [] _ _
-      (rw (or-false (wrong_count (length rows)))) (λ z. refl)
+      refl (λ z. refl)
 
 -- ---- a proposal and a delivery
 
 -- a message in a buffer of its length
 put_is : (m : Message) (out : List ℕ) → eqb (length out) (message_size today) ≡ true → put_message today m out ≡ message_bytes today m.kind m
-unfolding put_message cleared stored message_bytes
-put_is m out e = go m.kind
-  where
-    go : (k : Kind) → cond (is_empty k) (cleared today out) (stored (message_format today) m out) ≡ message_bytes today k m
-    go Empty = rw e
-    go First = rw e
-    go Check = rw e
-    go Second = rw e
-    go Skip = rw e
+unfolding put_message
+put_is m out e =
+    let size : length out ≡ message_size today = eqb-true _ _ e in
+    message_stored m.kind m (cleared today out) out (cleared_empty out _ refl size) size
 
 -- a proposal gives no decision
 abbrev no_decision : CardAnswer → CardAnswer
@@ -184,17 +176,17 @@ no_decision x = card_called x.number x.rows x.out blank_code
 
 module _ (engine n unit : ℕ) (rows : List CardRow) (out : List ℕ) where
   -- what a call says, from what it asks
-  abbrev said : CardCall → CardAnswer
-  said c = told_card today (card_rows today c rows) out (card_told today c rows)
+  abbrev said : Result CardCall Refusal → CardAnswer
+  said x = told_card today (card_rows today x rows) out (card_told today x rows)
 
   -- a wrong length is refused first
-  short : (k : ℕ) (cs : List Condition) (ok : CardAnswer) → first_refusal cs ≡ Some Refusal.Length
-      → said (card_call engine n unit k Act.WrongLength) ≡ unless_card today cs rows out ok
-  unfolding front_conditions first_refusal
-  short k cs ok e =
-      asked (card_call engine n unit k Act.WrongLength) rows out
-      ∙ unless_same (conditions_of (card_call engine n unit k Act.WrongLength) rows out) cs rows out _ ok
-      (rw (or-true (wrong_count (length rows))) (sym e)) (λ z. absurd (omega (arith, sym (ap number_of e) ∙ z)))
+  same_length : (b : Bool) → Some Refusal.Length ≡ cond b (Some Refusal.Length) (Some Refusal.Length)
+  same_length true = refl
+  same_length false = refl
+
+  short : (cs : List Condition) (ok : CardAnswer) → first_refusal cs ≡ Some Refusal.Length
+      → said (Err Refusal.Length) ≡ unless_card today cs rows out ok
+  short cs ok e = refused_asked Refusal.Length rows out cs ok (e ∙ same_length (wrong_count (length rows)))
 
   -- an accepted step is answered as bytes
   accepted : (k : ℕ) (s : UnitStep) → eqb (length out) (message_size today) ≡ true
@@ -205,15 +197,15 @@ module _ (engine n unit : ℕ) (rows : List CardRow) (out : List ℕ) where
 
   module _ (k v : ℕ) where
     propose_by : (x : Bool) → wrong_length out (message_size today) ≡ x
-        → said (cond x (card_call engine n unit k Act.WrongLength) (card_call engine n unit k (Act.Step (UnitStep.Propose v))))
+        → said (cond x (Err Refusal.Length) (Ok (card_call engine n unit k (Act.Step (UnitStep.Propose v)))))
         ≡ card_propose_call today (beside engine n unit) rows k v out
     unfolding card_propose_call card_propose_conditions front_conditions step_conditions unit_conditions unit_answer propose_conditions first_refusal
-    propose_by true e = short k (card_propose_conditions today (beside engine n unit) k rows v out) _ (rw (e, or-true (wrong_count (length rows))))
+    propose_by true e = short (card_propose_conditions today (beside engine n unit) k rows v out) _ (rw (e, or-true (wrong_count (length rows))))
     propose_by false e =
         asked (card_call engine n unit k (Act.Step (UnitStep.Propose v))) rows out
         ∙ unless_same (conditions_of (card_call engine n unit k (Act.Step (UnitStep.Propose v))) rows out)
         (card_propose_conditions today (beside engine n unit) k rows v out) rows out _ _
-        (rw e) (λ z. accepted k (UnitStep.Propose v) (not-false _ e))
+        (rw (e, or-false (wrong_count (length rows)))) (λ z. accepted k (UnitStep.Propose v) (not-false _ e))
 
     silent : no_decision (card_propose_call today (beside engine n unit) rows k v out) ≡ card_propose_call today (beside engine n unit) rows k v out
     unfolding card_propose_call proposed send_first
@@ -230,8 +222,8 @@ module _ (engine n unit : ℕ) (rows : List CardRow) (out : List ℕ) where
         go true = refl
         go false = refl
 
-    pub propose_asked : (let c = propose_asks today engine n unit k v (length out) in
-        card_called (number_of (card_told today c rows).refusal) (card_rows today c rows) (put_message today (card_told today c rows).message out) blank_code)
+    pub propose_asked : (let x = propose_asks today engine n unit k v (length out) in
+        card_called (number_of (card_told today x rows).refusal) (card_rows today x rows) (put_message today (card_told today x rows).message out) blank_code)
         ≡ card_propose_call today (beside engine n unit) rows k v out
     unfolding propose_asks
     propose_asked = ap no_decision (propose_by (wrong_length out (message_size today)) refl) ∙ silent
@@ -240,18 +232,9 @@ module _ (engine n unit : ℕ) (rows : List CardRow) (out : List ℕ) where
     abbrev m : Message
     m = (read_message today bs).contents
 
-    abbrev asks : Bool → Bool → CardCall
+    abbrev asks : Bool → Bool → Result CardCall Refusal
     asks x y =
-        cond x (card_call engine n unit 0 Act.WrongLength)
-        (cond y (card_call engine n unit 0 Act.Malformed) (card_call engine n unit m.entry (Act.Step (UnitStep.Deliver m))))
-
-    refuses : (w : Bool) → number_of (cond w (Some Refusal.Length) (Some Refusal.Message)) ≡ 0 → ⊥
-    refuses true z = omega (arith, z)
-    refuses false z = omega (arith, z)
-
-    second : (a b : Bool) → (a || b) ≡ false → b ≡ false
-    second false b e = e
-    second true b e = never (sym e)
+        cond x (Err Refusal.Length) (cond y (Err Refusal.Message) (Ok (card_call engine n unit m.entry (Act.Step (UnitStep.Deliver m)))))
 
     message_read : bad_message today bs ≡ false → message_ok today m ≡ true
     unfolding bad_message
@@ -261,17 +244,16 @@ module _ (engine n unit : ℕ) (rows : List CardRow) (out : List ℕ) where
         → said (asks x y) ≡ card_deliver_call today (beside engine n unit) rows bs out
     unfolding card_deliver_call card_deliver_conditions front_conditions step_conditions unit_conditions unit_answer deliver_conditions first_refusal
     deliver_by true y e f =
-        short 0 (card_deliver_conditions today (beside engine n unit) m rows bs out) _ (rw (e, or-true (wrong_count (length rows))))
+        short (card_deliver_conditions today (beside engine n unit) m rows bs out) _ (rw (e, or-true (wrong_count (length rows))))
     deliver_by false true e f =
-        asked (card_call engine n unit 0 Act.Malformed) rows out
-        ∙ unless_same (conditions_of (card_call engine n unit 0 Act.Malformed) rows out)
-        (card_deliver_conditions today (beside engine n unit) m rows bs out) rows out _ _
-        (rw (e, f)) (λ z. absurd (refuses (wrong_count (length rows) || false) (rw (e, f) at z)))
+        refused_asked Refusal.Message rows out (card_deliver_conditions today (beside engine n unit) m rows bs out) _
+        (rw (e, f, or-false (wrong_count (length rows))))
     deliver_by false false e f =
         asked (card_call engine n unit m.entry (Act.Step (UnitStep.Deliver m))) rows out
         ∙ unless_same (conditions_of (card_call engine n unit m.entry (Act.Step (UnitStep.Deliver m))) rows out)
         (card_deliver_conditions today (beside engine n unit) m rows bs out) rows out _ _
-        (rw (e, f, message_read f)) (λ z. accepted m.entry (UnitStep.Deliver m) (not-false _ (second (wrong_length bs (message_size today)) _ e)))
+        (rw (e, f, or-false (wrong_count (length rows)), message_read f))
+        (λ z. accepted m.entry (UnitStep.Deliver m) (not-false _ (or_parts (wrong_length bs (message_size today)) _ e).1))
 
     pub deliver_asked : said (deliver_asks today engine n unit bs (length out)) ≡ card_deliver_call today (beside engine n unit) rows bs out
     unfolding deliver_asks

@@ -1,30 +1,31 @@
 -- The laws of the four calls on a card, over their own definitions. Assumes nothing.
 use Rattle.std.specs.Prelude.{Some}
+use Rattle.std.proofs.lemmas.Bool.{and_parts}
 use Prim.Native.Nat.{ℕ, zero, suc, ◌-◌, ◌≤◌}
 use mathlib.Core.Path.{◌≡◌, refl, sym, ap, ◌∙◌}
 use mathlib.Core.Bool.{Bool, true, false, cond, ◌||◌}
 use mathlib.Core.List.{List, [], ◌∷◌}
 use native.Mathlib.Omega.{arith}
-use lib.Dec.{eqb, leb}
+use lib.Dec.{eqb}
 use lib.ListN.{length, get_or, set}
 use lib.Seq.{set-get_or, get_or-set_other}
-use borrow.Author.Tests.{eqb-true, eqb-false, leb-true, not-false}
+use borrow.Author.Tests.{eqb-true, eqb-false, not-false}
 use Rattle.tally.specs.Limits.{Limits, blank_code}
 use Rattle.tally.specs.Refusal.{number_of}
-use Rattle.tally.proofs.Count.{Each}
-use Rattle.tally.proofs.Never.{never}
-use Rattle.contents.proofs.Tests.{both_true}
+use Rattle.tally.proofs.Refusals.{refusal_number}
+use Rattle.consensus.proofs.Laws.{none_first}
+use Rattle.std.proofs.lemmas.Bool.{or_parts}
 use Rattle.contents.specs.Images.{fits}
 use Rattle.contents.specs.declared.Message.{Message}
 use Rattle.formats.specs.Formats.{from_numbers}
 use Rattle.formats.specs.Logs.{log_format}
 use Rattle.formats.specs.Messages.{read_message, cleared}
-use Rattle.consensus.specs.Conditions.{Condition, condition_number, first_refusal, NoneHolds}
+use Rattle.consensus.specs.Conditions.{Condition, first_refusal, NoneHolds}
 use Rattle.consensus.specs.Step.{fresh, recovered, proposed, received}
 use Rattle.consensus.specs.Units.{unit_log, at_log, down_unit}
 use Rattle.consensus.specs.declared.Unit as U
 use Rattle.consensus.proofs.Answers.{proposed_keeps}
-use Rattle.cards.specs.Calls.{CardAnswer, card_called, row_at, unless_card, names_no_row, Beside, bad_beside, settings_of_row, bad_row_log, other_row}
+use Rattle.cards.specs.Calls.{CardAnswer, card_called, row_at, unless_card, Beside, bad_beside, settings_of_row, bad_row_log, other_row}
 use Rattle.cards.specs.Calls.{bad_row_image, card_start_conditions, card_start_call, card_key_on_conditions, card_key_on_call, card_propose_conditions}
 use Rattle.cards.specs.Calls.{card_propose_call, card_deliver_conditions, card_deliver_call}
 use Rattle.cards.specs.Claims.{OnRow, Alike, Unread}
@@ -32,29 +33,21 @@ use Rattle.cards.specs.Rows.{numbers_of, log_fields_of, row_log, row_image, row_
 use Rattle.cards.specs.declared.CardRow.{CardRow}
 use Rattle.cards.specs.declared.LogFields.{LogFields}
 use Rattle.cards.proofs.Rows.{log_forth, row_forth}
+use Rattle.cards.proofs.Steps.{named}
 
 -- ---- conditions
 
--- no condition's number is 0
-abbrev pub Named : List Condition → Type 0
-Named cs = Each (λ r. condition_number r ≡ 0 → ⊥) cs
-
-pub none_holds : (cs : List Condition) → Named cs → number_of (first_refusal cs) ≡ 0 → NoneHolds cs
+pub none_holds : (cs : List Condition) → number_of (first_refusal cs) ≡ 0 → NoneHolds cs
 unfolding first_refusal
-none_holds [] h e = tt
-none_holds (r ∷ rs) h e = go r.holds refl e (none_holds rs h.1)
+none_holds [] e = tt
+none_holds (r ∷ rs) e = go r.holds refl e (none_holds rs)
   where
     go : (b : Bool) → r.holds ≡ b → number_of (cond b (Some r.refusal) (first_refusal rs)) ≡ 0 → (number_of (first_refusal rs) ≡ 0 → NoneHolds rs)
         → (r.holds ≡ false) × NoneHolds rs
-    go true q z f = absurd (h.0 z)
+    go true q z f = absurd (eqb-false _ 0 (refusal_number r.refusal) z)
     go false q z f = (q, f z)
 
-holds_none : (cs : List Condition) → NoneHolds cs → number_of (first_refusal cs) ≡ 0
-unfolding first_refusal
-holds_none [] h = refl
-holds_none (r ∷ rs) h = rw h.0 (holds_none rs h.1)
-
-module _ (l : Limits) (cs : List Condition) (named : Named cs) (rows : List CardRow) (k : ℕ) (there : NoneHolds cs → 1 ≤ k) (x : CardRow)
+module _ (l : Limits) (cs : List Condition) (rows : List CardRow) (k : ℕ) (there : NoneHolds cs → 1 ≤ k) (x : CardRow)
     (out : List ℕ) where
   -- a call that, accepted, stores x in row k
   on_row : (sent : List ℕ) (d : ℕ) → OnRow l cs rows k x out (unless_card l cs rows out (card_called 0 (set rows (k - 1) x) sent d))
@@ -67,17 +60,17 @@ module _ (l : Limits) (cs : List Condition) (named : Named cs) (rows : List Card
           let z = eqb-true (number_of (first_refusal cs)) 0 e in
           record {
             number = sym z;
-            accepted = λ q. none_holds cs named z;
+            accepted = λ q. none_holds cs z;
             none = λ h. refl;
             refused = λ n. absurd (n refl);
             stored = λ q. refl;
-            others = λ j h n. get_or-set_other rows (k - 1) (j - 1) x no_row (λ q. n (omega (arith, q, there (none_holds cs named z))));
+            others = λ j h n. get_or-set_other rows (k - 1) (j - 1) x no_row (λ q. n (omega (arith, q, there (none_holds cs z))));
           }
       go false e =
           record {
             number = refl;
             accepted = λ q. absurd (eqb-false (number_of (first_refusal cs)) 0 e q);
-            none = λ h. absurd (eqb-false (number_of (first_refusal cs)) 0 e (holds_none cs h));
+            none = λ h. absurd (eqb-false (number_of (first_refusal cs)) 0 e (ap number_of (none_first cs h)));
             refused = λ n. refl;
             stored = λ q. absurd (eqb-false (number_of (first_refusal cs)) 0 e q);
             others = λ j h n. refl;
@@ -105,15 +98,7 @@ unless_alike l cs rows rows' k len same x out sent d = go (eqb (number_of (first
     go true = record { number = refl; out = refl; decision = refl; row = set_alike rows rows' (k - 1) x len }
     go false = record { number = refl; out = refl; decision = refl; row = same }
 
-named_row : (count k : ℕ) → names_no_row count k ≡ false → 1 ≤ k
-unfolding names_no_row
-named_row count k h = leb-true 1 k (both_true (leb 1 k) (leb k count) (not-false _ h)).0
-
 -- what the conditions of 2 and 3 say where they do not hold
-or_second : (a b : Bool) → (a || b) ≡ false → b ≡ false
-or_second false b e = e
-or_second true b e = never (sym e)
-
 log_read : (l : Limits) (r : CardRow) → bad_row_log l r ≡ false → (row_log l r).number ≡ 0
 unfolding bad_row_log
 log_read l r h = eqb-true _ _ (not-false _ h)
@@ -121,13 +106,13 @@ log_read l r h = eqb-true _ _ (not-false _ h)
 image_read : (l : Limits) (r : CardRow) → bad_row_image l r ≡ false
     → ((row_image l r).number ≡ 0) × (fits (row_image l r).contents (row_log l r).contents ≡ true)
 unfolding bad_row_image
-image_read l r h = let t = both_true (eqb (row_image l r).number 0) _ (not-false _ h) in (eqb-true _ _ t.0, t.1)
+image_read l r h = let t = and_parts (eqb (row_image l r).number 0) _ (not-false _ h) in (eqb-true _ _ t.0, t.1)
 
 -- the row of the unit that a row holds, where 2 and 3 do not hold of it
 row_same : (l : Limits) (r : CardRow) (a b : Bool) → (a || bad_row_log l r) ≡ false → (b || bad_row_image l r) ≡ false → row_of (row_unit l r) ≡ r
 row_same l r a b two three =
-    let i = image_read l r (or_second b _ three) in
-    row_forth l r (log_read l r (or_second a _ two)) i.0 i.1
+    let i = image_read l r (or_parts b _ three).1 in
+    row_forth l r (log_read l r (or_parts a _ two).1) i.0 i.1
 
 -- a part of a row that stays where the row is stored, also past the end
 pub kept_part : {A : Type 0} (f : CardRow → A) (rows : List CardRow) (i : ℕ) (r : CardRow) → f r ≡ f (get_or rows i no_row)
@@ -148,7 +133,7 @@ module _ (l : Limits) (b : Beside) (rows rows' : List CardRow) (len : length row
     pub start_on_row : OnRow l (card_start_conditions b k rows) rows k (row_of (fresh (settings_of_row b k))) [] (card_start_call l b rows k)
     unfolding card_start_call card_start_conditions
     start_on_row =
-        on_row l _ (λ h. omega (arith, h), (λ h. omega (arith, h), (λ h. omega (arith, h), tt))) rows k (λ h. named_row _ _ h.1.0) _ [] []
+        on_row l _ rows k (λ h. (named _ _ h.1.0).0) _ [] []
         blank_code
 
     pub start_alike : row_at rows k ≡ row_at rows' k → Alike k (card_start_call l b rows k) (card_start_call l b rows' k)
@@ -159,15 +144,15 @@ module _ (l : Limits) (b : Beside) (rows rows' : List CardRow) (len : length row
         (card_key_on_call l b rows k)
     unfolding card_key_on_call card_key_on_conditions
     key_on_on_row =
-        on_row l _ (λ h. omega (arith, h), (λ h. omega (arith, h), (λ h. omega (arith, h), (λ h. omega (arith, h), tt)))) rows k
-        (λ h. named_row _ _ h.1.0) _ [] [] blank_code
+        on_row l _ rows k
+        (λ h. (named _ _ h.1.0).0) _ [] [] blank_code
 
     -- key-on leaves the row's log to the last number
     pub key_on_keeps_log : (card_key_on_call l b rows k).number ≡ 0 → (row_at (card_key_on_call l b rows k).rows k).log ≡ (row_at rows k).log
     unfolding card_key_on_conditions recovered down_unit at_log
     key_on_keeps_log z =
         keeps_part (λ (r : CardRow). r.log) key_on_on_row z
-        (log_forth l (row_at rows k) (log_read l (row_at rows k) (or_second (bad_beside b k) _ (key_on_on_row.accepted z).1.1.0)))
+        (log_forth l (row_at rows k) (log_read l (row_at rows k) (or_parts (bad_beside b k) _ (key_on_on_row.accepted z).1.1.0).1))
 
     pub key_on_alike : row_at rows k ≡ row_at rows' k → Alike k (card_key_on_call l b rows k) (card_key_on_call l b rows' k)
     unfolding card_key_on_call card_key_on_conditions
@@ -178,9 +163,8 @@ module _ (l : Limits) (b : Beside) (rows rows' : List CardRow) (len : length row
           (card_propose_call l b rows k v out)
       unfolding card_propose_call card_propose_conditions
       propose_on_row =
-          on_row l _
-          (λ h. omega (arith, h), (λ h. omega (arith, h), (λ h. omega (arith, h), (λ h. omega (arith, h), (λ h. omega (arith, h), tt))))) rows k
-          (λ h. named_row _ _ h.1.0) _ out _ _
+          on_row l _ rows k
+          (λ h. (named _ _ h.1.0).0) _ out _ _
 
       pub propose_alike : row_at rows k ≡ row_at rows' k → Alike k (card_propose_call l b rows k v out) (card_propose_call l b rows' k v out)
       unfolding card_propose_call card_propose_conditions
@@ -209,13 +193,7 @@ module _ (l : Limits) (b : Beside) (rows rows' : List CardRow) (len : length row
         (row_of (received (row_unit l (row_at rows m.entry)) m).unit) out (card_deliver_call l b rows bs out)
     unfolding card_deliver_call card_deliver_conditions
     deliver_on_row =
-        on_row l _ (
-          λ h. omega (arith, h),
-          (
-            λ h. omega (arith, h),
-            (λ h. omega (arith, h), (λ h. omega (arith, h), (λ h. omega (arith, h), (λ h. omega (arith, h), (λ h. omega (arith, h), tt))))),
-          ),
-        ) rows m.entry (λ h. named_row _ _ h.1.1.0) _ out _ _
+        on_row l _ rows m.entry (λ h. (named _ _ h.1.1.0).0) _ out _ _
 
     pub deliver_alike : row_at rows m.entry ≡ row_at rows' m.entry
         → Alike m.entry (card_deliver_call l b rows bs out) (card_deliver_call l b rows' bs out)

@@ -28,13 +28,17 @@ use Rattle.consensus.specs.declared.Answer.{Answer}
 use Rattle.consensus.specs.declared.Power.TheVariants.{Up}
 use Rattle.consensus.specs.declared.Unit as U
 use Rattle.calls.specs.Calls.{bad_settings, bad_message, message_bytes}
-use Rattle.calls.proofs.Encoded.{read_message_lem}
+use Rattle.calls.proofs.Encoded.{read_message_lem, same_unit}
 use Rattle.cards.specs.Calls.{CardAnswer, card_called, unless_card, answered_card, wrong_count, names_no_row, row_at, Beside, beside, bad_beside}
 use Rattle.cards.specs.Calls.{settings_of_row, bad_row_log, other_row, bad_row_image, card_start_conditions, card_start_call, card_key_on_conditions}
 use Rattle.cards.specs.Calls.{card_key_on_call, card_propose_conditions, card_propose_call, card_deliver_conditions, card_deliver_call}
 use Rattle.cards.specs.Rows.{row_unit, row_of, no_row}
 use Rattle.cards.specs.declared.CardRow.{CardRow}
 use Rattle.cards.proofs.Rows.{row_back}
+
+-- the unit of an up unit's row
+pub unit_is : (l : Limits) → Sane l → (u : U.Unit) → WellFormed l u → u.power ≡ Up → row_unit l (row_of u) ≡ u
+unit_is l sane u w up = rw ((row_back l sane u w).0, (row_back l sane u w).1) (same_unit u up)
 
 module _ (l : Limits) (sane : Sane l) (u : U.Unit) (w : WellFormed l u) (rows : List CardRow) where
   abbrev k : ℕ
@@ -96,12 +100,6 @@ module _ (l : Limits) (sane : Sane l) (u : U.Unit) (w : WellFormed l u) (rows : 
     card_key_on_encoded = rw (count, names, in_range_lem, there, two, other, (row_back l sane u w).0)
 
     module _ (up : u.power ≡ Up) where
-      unit_is : row_unit l (row_of u) ≡ u
-      unit_is =
-          rw ((row_back l sane u w).0, (row_back l sane u w).1)
-          (ap (λ p. record { power = p; settings = u.settings; logged = u.logged; current = u.current; checks = u.checks; seconds = u.seconds })
-          (sym up))
-
       module _ (v : ℕ) (out : List ℕ) (size : length out ≡ message_size l) where
         propose_conditions_lem : first_refusal (card_propose_conditions l b k rows v out) ≡ first_refusal (propose_conditions l u v)
         unfolding card_propose_conditions propose_conditions first_refusal
@@ -111,7 +109,8 @@ module _ (l : Limits) (sane : Sane l) (u : U.Unit) (w : WellFormed l u) (rows : 
         unfolding card_propose_call propose
         card_propose_encoded =
             ap (λ (r : CardRow). unless_card l (card_propose_conditions l b k rows v out) rows out (answered_card l rows k (proposed (row_unit l r) v))) there
-            ∙ ap (λ (x : U.Unit). unless_card l (card_propose_conditions l b k rows v out) rows out (answered_card l rows k (proposed x v))) unit_is
+            ∙ ap (λ (x : U.Unit). unless_card l (card_propose_conditions l b k rows v out) rows out (answered_card l rows k (proposed x v)))
+            (unit_is l sane u w up)
             ∙ same_answer (card_propose_conditions l b k rows v out) (propose_conditions l u v) (proposed u v) out propose_conditions_lem
             (plain_proposed u v).none size
 
@@ -145,7 +144,7 @@ module _ (l : Limits) (sane : Sane l) (u : U.Unit) (w : WellFormed l u) (rows : 
               two,
               other_m,
               three,
-              unit_is,
+              unit_is l sane u w up,
               up,
               ok,
             )
@@ -153,7 +152,7 @@ module _ (l : Limits) (sane : Sane l) (u : U.Unit) (w : WellFormed l u) (rows : 
         pub card_deliver_encoded : card_deliver_call l b rows bs out ≡ on_card (deliver l u m)
         unfolding card_deliver_call deliver
         card_deliver_encoded =
-            rw ((read_message_lem l sane m ok).0, there_m, unit_is)
+            rw ((read_message_lem l sane m ok).0, there_m, unit_is l sane u w up)
             (ap (λ (j : ℕ). unless_card l (card_deliver_conditions l b m rows bs out) rows out (answered_card l rows j (received u m))) own
             ∙ same_answer (card_deliver_conditions l b m rows bs out) (deliver_conditions l u m) (received u m) out deliver_conditions_lem
             (plain_received u m).none size)

@@ -1,5 +1,6 @@
 -- Rows and contents, both ways: a unit's row is read back as that unit, and a row that is read is written back to the last number. Assumes nothing.
 use Rattle.std.specs.Prelude.{Option, Some, None}
+use Rattle.std.proofs.lemmas.Bool.{and_parts}
 use Prim.Native.Nat.{ℕ}
 use mathlib.Core.Path.{◌≡◌, refl, sym, ap, ap₂, ◌∙◌}
 use mathlib.Core.Bool.{Bool, true, false, cond, ◌&&◌}
@@ -18,7 +19,6 @@ use Rattle.contents.specs.declared.Log.{Log}
 use Rattle.contents.specs.declared.Settings.{Settings}
 use Rattle.contents.proofs.Facts.{image_facts}
 use Rattle.contents.proofs.Same.{same_settings_lem}
-use Rattle.contents.proofs.Tests.{both_true}
 use Rattle.formats.specs.Codes.{engine_of, with_engine}
 use Rattle.formats.specs.Formats.{reading, checked}
 use Rattle.formats.specs.Images.{with_tallies, image_format}
@@ -79,7 +79,7 @@ fields_back f e p = ap fields_from (numbers_of_lem e (numbers_of f) refl p)
 abbrev tally_fields_from : List ℕ → TallyFields
 tally_fields_from vs = record { marks = get_or vs 0 0; estimates = drop 1 vs }
 
-tally_fields_back : (f : TallyFields) → tally_fields_of (row_tally f) ≡ f
+pub tally_fields_back : (f : TallyFields) → tally_fields_of (row_tally f) ≡ f
 tally_fields_back f = ap tally_fields_from (numbers_tally (f.marks ∷ f.estimates) (omega arith))
 
 module _ (l : Limits) (r : CardRow) where
@@ -130,7 +130,7 @@ module _ (l : Limits) (r : CardRow) where
   row_forth z y f =
       let b = image_forth y in
       let s = same_settings_lem (row_image l r).contents.settings (row_log l r).contents.settings
-      (both_true (same_settings (row_image l r).contents.settings (row_log l r).contents.settings) _ f).0 in
+      (and_parts (same_settings (row_image l r).contents.settings (row_log l r).contents.settings) _ f).0 in
       let i : log_fields_of (record { settings = (row_log l r).contents.settings; state = (row_image l r).contents.state }) ≡ r.image =
       ap (λ (q : Settings). log_fields_of (record { settings = q; state = (row_image l r).contents.state })) (sym s) ∙ b.image in
       let w = row_of (row_unit l r) in

@@ -1,31 +1,34 @@
 -- What the code of a card cites: which row, what is read of it, and its step. Assumes nothing.
 use Rattle.std.specs.Prelude.{Option, Some, None, Result, Ok, Err}
-use Prim.Native.Nat.{ℕ, zero, suc, ◌≤◌, ◌<◌, ◌-◌}
+use Rattle.std.specs.Result.{result_ok}
+use Prim.Native.Nat.{ℕ, ◌≤◌, ◌<◌, ◌+◌, ◌-◌}
+use Rattle.std.proofs.lemmas.Bool.{and_parts}
 use mathlib.Core.Path.{◌≡◌, refl, sym, ap, ◌∙◌}
 use mathlib.Core.Bool.{Bool, true, false, not, cond, ◌&&◌, ◌||◌}
-use mathlib.Core.List.{List, [], ◌∷◌, map}
+use mathlib.Core.List.{List, [], ◌∷◌}
 use native.Mathlib.Omega.{arith}
 use lib.Dec.{eqb, leb}
-use lib.ListN.{length, get_or}
-use borrow.Author.Tests.{eqb-true, leb-true, eq-eqb, ne_eqb}
+use Rattle.std.proofs.lemmas.List.{get_or-map}
+use lib.ListN.{length, get_or, set}
+use borrow.Author.Tests.{eqb-true, leb-true, not-false}
 use Rattle.tally.specs.Limits.{Limits, today}
 use Rattle.tally.specs.Refusal.{number_of}
 use Rattle.tally.specs.Tally.{blank_cell, estimate_at}
 use Rattle.tally.specs.declared.Cell.{Cell}
 use Rattle.tally.specs.declared.Refusal.{Refusal}
 use Rattle.tally.proofs.Never.{never}
+use Rattle.tally.proofs.Refusals.{refusal_number}
 use Rattle.contents.specs.Images.{image_ok, fits}
 use Rattle.contents.specs.Logs.{log_ok}
 use Rattle.contents.specs.declared.Log.{Log}
 use Rattle.contents.specs.declared.Settings.{Settings}
 use Rattle.contents.specs.declared.State.{State}
-use Rattle.contents.proofs.Tests.{both_true}
 use Rattle.formats.specs.Codes.{engine_of, with_engine, estimate_of}
 use Rattle.formats.specs.Formats.{reading, checked, from_numbers}
 use Rattle.formats.specs.Images.{cell_of, tally_of, image_format}
 use Rattle.formats.specs.InnerImages.{fit_state}
 use Rattle.formats.specs.Logs.{log_format, log_of, no_log}
-use Rattle.formats.proofs.Places.{fit_checked}
+use Rattle.formats.proofs.Places.{fit_checked, fit_none, fit_some}
 use Rattle.consensus.specs.Conditions.{Condition, condition, first_refusal}
 use Rattle.consensus.specs.Methods.{unless, refuses, propose, deliver}
 use Rattle.consensus.specs.Step.{quiet, fresh, recovered}
@@ -35,9 +38,9 @@ use Rattle.consensus.specs.declared.Unit as U
 use Rattle.consensus.proofs.Answers.{plain_proposed, plain_received}
 use Rattle.cards.specs.Calls.{wrong_count, names_no_row, bad_beside, settings_of_row, bad_row_log, other_row, bad_row_image}
 use Rattle.cards.specs.InnerSteps.{log_read_of, beside_of, own_log, unmarked_row, row_fits, unit_conditions, unit_answer, takes, step_conditions}
-use Rattle.cards.specs.InnerSteps.{step_answer, tells, told, row_answer, row_answered, unless_row, act_of, with_log, is_short, is_malformed, front_conditions}
-use Rattle.cards.specs.InnerSteps.{front, place_of}
-use Rattle.cards.specs.Rows.{numbers_of, marks_fit, row_tally, image_with, row_log, row_image, row_unit, row_of}
+use Rattle.cards.specs.InnerSteps.{step_answer, tells, told, row_answer, row_answered, unless_row, act_of, with_log, front_conditions}
+use Rattle.cards.specs.InnerSteps.{front, card_told, card_rows, step_of}
+use Rattle.cards.specs.Rows.{numbers_of, marks_fit, row_tally, image_with, row_log, row_image, row_unit, row_of, no_row}
 use Rattle.cards.specs.declared.Act.{Act}
 use Rattle.cards.specs.declared.CardCall.{CardCall}
 use Rattle.cards.specs.declared.CardRow.{CardRow}
@@ -48,36 +51,39 @@ use Rattle.cards.proofs.Rows.{image_forth}
 use Rattle.tally.specs.declared.Engine.{Engine}
 
 -- the estimate of a sender, in a row
-row_cell : (es : List ℕ) (k : ℕ) → k < length es → get_or (map cell_of es) k blank_cell ≡ cell_of (get_or es k 0)
-row_cell [] k h = absurd (omega arith)
-row_cell (e ∷ es) zero h = refl
-row_cell (e ∷ es) (suc k) h = row_cell es k (omega arith)
-
 pub row_estimate : (marks : ℕ) (es : List ℕ) (k : ℕ) → k < length es → estimate_at (tally_of (marks ∷ es)) k ≡ estimate_of (get_or es k 0)
-row_estimate marks es k h = ap (λ (c : Cell). c.estimate) (row_cell es k h)
+row_estimate marks es k h = ap (λ (c : Cell). c.estimate) (get_or-map cell_of es k 0 blank_cell h)
 
 -- ---- which row
 
+pub named : (count k : ℕ) → names_no_row count k ≡ false → (1 ≤ k) × (k ≤ count)
+unfolding names_no_row
+named count k e = let t = and_parts (leb 1 k) (leb k count) (not-false _ e) in (leb-true _ _ t.0, leb-true _ _ t.1)
+
 -- a call that is not refused before any row is read names one
-pub front_row : (c : CardCall) (count : ℕ) → number_of (front c count) ≡ 0 → (1 ≤ c.row) × (c.row ≤ count)
-unfolding front front_conditions first_refusal names_no_row
-front_row c count h = go (wrong_count count || is_short c.act) (is_malformed c.act) (leb 1 c.row && leb c.row count) refl h
+pub front_row : (c : CardCall) (count : ℕ) → number_of (front (Ok c) count) ≡ 0 → (1 ≤ c.row) × (c.row ≤ count)
+unfolding front front_conditions first_refusal
+front_row c count h = go (wrong_count count) (names_no_row count c.row) refl h
   where
-    go : (a b d : Bool) → (leb 1 c.row && leb c.row count) ≡ d
-        → number_of (cond a (Some Refusal.Length) (cond b (Some Refusal.Message) (cond (not d) (Some Refusal.Row) None))) ≡ 0
+    go : (a d : Bool) → names_no_row count c.row ≡ d → number_of (cond a (Some Refusal.Length) (cond d (Some Refusal.Row) None)) ≡ 0
         → (1 ≤ c.row) × (c.row ≤ count)
-    go true b d e z = absurd (omega (arith, z))
-    go false true d e z = absurd (omega (arith, z))
-    go false false false e z = absurd (omega (arith, z))
-    go false false true e z = let t = both_true (leb 1 c.row) (leb c.row count) e in (leb-true _ _ t.0, leb-true _ _ t.1)
+    go true d e z = absurd (omega (arith, z))
+    go false true e z = absurd (omega (arith, z))
+    go false false e z = named count c.row e
 
-pub place_at : (c : CardCall) (count : ℕ) → number_of (front c count) ≡ 0 → place_of c count ≡ c.row - 1
-unfolding place_of
-place_at c count z = rw (eq-eqb _ _ z)
+-- a call without a row tells why, and leaves the rows
+pub told_none : (x : Result CardCall Refusal) (rows : List CardRow) (why : Refusal) → front x (length rows) ≡ Some why
+    → (tells (Some why) ≡ card_told today x rows) × (rows ≡ card_rows today x rows)
+unfolding card_told card_rows
+told_none (Ok c) rows why e = rw (e, refusal_number why) (refl, refl)
+told_none (Err k) rows why e = rw e (refl, refl)
 
-pub place_none : (c : CardCall) (count : ℕ) → (number_of (front c count) ≡ 0 → ⊥) → place_of c count ≡ count
-unfolding place_of
-place_none c count z = rw (ne_eqb _ _ z)
+-- one with a row tells what its step says, and stores it there
+pub told_row : (c : CardCall) (rows : List CardRow) (k : ℕ) → front (Ok c) (length rows) ≡ None → k + 1 ≡ c.row
+    → (card_told today (Ok c) rows ≡ (step_of today c (get_or rows k no_row)).told)
+    × (card_rows today (Ok c) rows ≡ set rows k (step_of today c (get_or rows k no_row)).row)
+unfolding card_told card_rows
+told_row c rows k none at = let place : c.row - 1 ≡ k = omega arith in rw (none, place) (refl, refl)
 
 -- ---- a row's image, tested: its first numbers are read as a log
 
@@ -134,18 +140,26 @@ module _ (r : CardRow) (g : Log) where
   unfolding row_image
   row_tested front e = image_tested (engine_of r.image.engine) front e
 
+  -- so its state is that of its first numbers, where these are a log and all of it fits
+  abbrev pub state_by : Option Log → Option State
+  state_by (Some front) = cond (row_fits today r front g) (Some front.state) None
+  state_by None = None
+
+  pub row_state : fit_state (row_image today r) g ≡ state_by (result_ok (log_read_of (from_numbers (log_format today) (numbers_of r.image))))
+  row_state = go (log_read_of (from_numbers (log_format today) (numbers_of r.image))) refl
+    where
+      go : (x : Result Log Refusal) → log_read_of (from_numbers (log_format today) (numbers_of r.image)) ≡ x
+          → fit_state (row_image today r) g ≡ state_by (result_ok x)
+      go (Ok front) e = row_tested front e
+      go (Err k) e = row_unread k e
+
   -- ---- the unit of a row that fits
 
   abbrev fit : Bool
   fit = eqb (row_image today r).number 0 && fits (row_image today r).contents g
 
   pub row_unfit : fit_state (row_image today r) g ≡ None → fit ≡ false
-  unfolding fit_state
-  row_unfit e = go fit refl e
-    where
-      go : (t : Bool) → fit ≡ t → cond t (Some (row_image today r).contents.state) None ≡ None → fit ≡ false
-      go true b e = never cc
-      go false b e = b
+  row_unfit e = fit_none (row_image today r) g e
 
   -- its state, and its tallies as the row has them
   pub record FitRow (s : State) : Type 0 where
@@ -156,20 +170,15 @@ module _ (r : CardRow) (g : Log) where
         ≡ up_unit g (row_image today r).contents
 
   pub row_fit : (s : State) → fit_state (row_image today r) g ≡ Some s → FitRow s
-  unfolding fit_state
-  row_fit s e = go fit refl e
-    where
-      go : (t : Bool) → fit ≡ t → cond t (Some (row_image today r).contents.state) None ≡ Some s → FitRow s
-      go false b e = never cc
-      go true b e =
-          let same : (row_image today r).contents.state ≡ s = cc in
-          let read = image_forth today r (eqb-true _ _ (both_true (eqb (row_image today r).number 0) _ b).0) in
-          record {
-            fits_log = b;
-            checks_fit = read.checks_fit;
-            seconds_fit = read.seconds_fit;
-            unit = rw (← same, ← read.checks, ← read.seconds);
-          }
+  row_fit s e =
+      let there = fit_some (row_image today r) g s e in
+      let read = image_forth today r (eqb-true _ _ (and_parts (eqb (row_image today r).number 0) _ there.0).0) in
+      record {
+        fits_log = there.0;
+        checks_fit = read.checks_fit;
+        seconds_fit = read.seconds_fit;
+        unit = rw (← there.1, ← read.checks, ← read.seconds);
+      }
 
 -- ---- a row's step is its unit's
 

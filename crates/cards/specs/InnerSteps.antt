@@ -1,14 +1,15 @@
 -- What inner functions of card_rows and card_calls promise, of which no public call's contract speaks: a call as a value, which row it is of,
 -- and the step of that row. Assumes nothing.
-use Rattle.std.specs.Prelude.{ℕ, ◌-◌, Bool, true, false, not, cond, ◌&&◌, ◌||◌, List, [], ◌∷◌, eqb, leb, length, get_or, set, Option, Some}
+use Rattle.std.specs.Prelude.{ℕ, ◌-◌, Bool, true, false, not, cond, ◌&&◌, ◌||◌, List, [], ◌∷◌, eqb, length, set, Option, Some}
 use Rattle.std.specs.Prelude.{None, Result, Ok, Err}
 use Rattle.tally.specs.Limits.{Limits, message_size}
 use Rattle.tally.specs.Refusal.{number_of}
 use Rattle.tally.specs.Tally.{no_marks}
 use Rattle.tally.specs.declared.Estimate.TheVariants.{Blank}
 use Rattle.tally.specs.declared.Refusal.{Refusal}
+use Rattle.tally.specs.declared.Tally.{Tally}
 use Rattle.contents.specs.Estimates.{is_b}
-use Rattle.contents.specs.Images.{tally_ok, checks_allowed, fits}
+use Rattle.contents.specs.Images.{image_log, tally_ok, checks_allowed, fits}
 use Rattle.contents.specs.Messages.{is_empty, empty_message}
 use Rattle.contents.specs.declared.Log.{Log}
 use Rattle.contents.specs.declared.Message.{Message}
@@ -20,18 +21,19 @@ use Rattle.formats.specs.Messages.{message_format, read_message, cleared}
 use Rattle.consensus.specs.Conditions.{Condition, condition, first_refusal}
 use Rattle.consensus.specs.Methods.{propose_conditions, propose, deliver_conditions, deliver}
 use Rattle.consensus.specs.Step.{quiet, fresh, recovered, proposed, received}
-use Rattle.consensus.specs.Units.{up_unit, down_unit}
+use Rattle.consensus.specs.Units.{unit_log, unit_image, up_unit, down_unit}
 use Rattle.consensus.specs.declared.Answer.{Answer}
 use Rattle.consensus.specs.declared.Unit as U
 use Rattle.calls.specs.Calls.{wrong_length, bad_message}
 use Rattle.cards.specs.Calls.{CardAnswer, card_called, Beside, beside, wrong_count, names_no_row, bad_beside, settings_of_row, bad_row_log, other_row}
-use Rattle.cards.specs.Calls.{bad_row_image}
-use Rattle.cards.specs.Rows.{marks_fit, row_tally, log_fields_of, tally_fields_of, row_log, row_image, row_unit, row_of, no_row}
+use Rattle.cards.specs.Calls.{bad_row_image, row_at}
+use Rattle.cards.specs.Rows.{marks_fit, row_tally, log_fields_of, tally_fields_of, row_log, row_image, row_unit, row_of}
 use Rattle.cards.specs.declared.Act.{Act}
-use Rattle.cards.specs.declared.Act.TheVariants.{WrongLength, Malformed, Start, KeyOn, Step}
+use Rattle.cards.specs.declared.Act.TheVariants.{Start, KeyOn, Step}
 use Rattle.cards.specs.declared.CardCall.{CardCall}
 use Rattle.cards.specs.declared.CardRow.{CardRow}
 use Rattle.cards.specs.declared.RowAnswer.{RowAnswer}
+use Rattle.cards.specs.declared.TallyFields.{TallyFields}
 use Rattle.cards.specs.declared.Told.{Told}
 use Rattle.cards.specs.declared.UnitStep.{UnitStep}
 use Rattle.cards.specs.declared.UnitStep.TheVariants.{Propose, Deliver}
@@ -71,6 +73,21 @@ row_fits l r front g =
     && checks_allowed front.settings.engine front.state.second i.checks.marks
     && fits i g
 
+-- what is stored of a tally: nothing where the round is the same and the row has its marks already, and no estimates where it has no marks
+abbrev pub tally_over : Bool → Tally → TallyFields → TallyFields
+tally_over same t f = cond (same && eqb t.marks f.marks) f (cond (eqb t.marks 0) (tally_fields_of no_marks) (tally_fields_of t))
+
+-- a unit's row, stored over an older one
+abbrev pub row_over : U.Unit → CardRow → CardRow
+row_over u r =
+    let same = eqb u.current.round r.image.round in
+    record {
+      log = log_fields_of (unit_log u);
+      image = log_fields_of (image_log (unit_image u));
+      checks = tally_over same u.checks r.checks;
+      seconds = tally_over same u.seconds r.seconds;
+    }
+
 -- ---- the step of a row
 
 -- what the unit refuses, what it answers else, and both as its method
@@ -88,8 +105,6 @@ takes l (Deliver m) u = deliver l u m
 
 -- what refuses, once the row is known: 2, 3, and then the unit's own conditions
 unfoldable pub step_conditions : Limits → Act → CardCall → CardRow → List Condition
-step_conditions l WrongLength c r = condition Refusal.Length true ∷ []
-step_conditions l Malformed c r = condition Refusal.Message true ∷ []
 step_conditions l Start c r = condition Refusal.Log (bad_beside (beside_of c) c.row) ∷ []
 step_conditions l KeyOn c r =
     condition Refusal.Log (bad_beside (beside_of c) c.row || bad_row_log l r)
@@ -102,8 +117,6 @@ step_conditions l (Step s) c r =
 
 -- and else the unit's own step
 unfoldable pub step_answer : Limits → Act → CardCall → CardRow → Answer
-step_answer l WrongLength c r = quiet (row_unit l r)
-step_answer l Malformed c r = quiet (row_unit l r)
 step_answer l Start c r = quiet (fresh (settings_of_row (beside_of c) c.row))
 step_answer l KeyOn c r = quiet (recovered (down_unit (row_log l r).contents))
 step_answer l (Step s) c r = unit_answer s (row_unit l r)
@@ -122,6 +135,10 @@ row_answer r t = record { row = r; told = t }
 abbrev pub row_answered : CardRow → Answer → RowAnswer
 row_answered r a = cond (eqb (number_of a.refusal) 0) (row_answer (row_of a.unit) (told a)) (row_answer r (tells a.refusal))
 
+-- as it is stored
+abbrev pub row_stored : CardRow → Answer → RowAnswer
+row_stored r a = cond (eqb (number_of a.refusal) 0) (row_answer (row_over a.unit r) (told a)) (row_answer r (tells a.refusal))
+
 -- the first condition that holds refuses; where none does, the answer
 unfoldable pub unless_row : List Condition → CardRow → Answer → RowAnswer
 unless_row conditions r a =
@@ -139,64 +156,40 @@ with_log l s g r =
 unfoldable pub step_of : Limits → CardCall → CardRow → RowAnswer
 step_of l c r = act_of l c.act c r
 
--- ---- which row
-
--- 1, of a message or an output buffer
-abbrev pub is_short : Act → Bool
-is_short WrongLength = true
-is_short Malformed = false
-is_short Start = false
-is_short KeyOn = false
-is_short (Step s) = false
-
--- 4
-abbrev pub is_malformed : Act → Bool
-is_malformed WrongLength = false
-is_malformed Malformed = true
-is_malformed Start = false
-is_malformed KeyOn = false
-is_malformed (Step s) = false
+-- ---- which row, of a call or of one whose buffers are refused, with 1 or 4
 
 -- what refuses before any row is read: 1, 4, 12
-unfoldable pub front_conditions : CardCall → ℕ → List Condition
-front_conditions c count =
-    condition Refusal.Length (wrong_count count || is_short c.act)
-    ∷ condition Refusal.Message (is_malformed c.act)
-    ∷ condition Refusal.Row (names_no_row count c.row)
-    ∷ []
+unfoldable pub front_conditions : Result CardCall Refusal → ℕ → List Condition
+front_conditions (Ok c) count = condition Refusal.Length (wrong_count count) ∷ condition Refusal.Row (names_no_row count c.row) ∷ []
+front_conditions (Err k) count = condition Refusal.Length (wrong_count count) ∷ condition k true ∷ []
 
-unfoldable pub front : CardCall → ℕ → Option Refusal
-front c count = first_refusal (front_conditions c count)
-
--- where the row stands, or past the end where there is none
-unfoldable pub place_of : CardCall → ℕ → ℕ
-place_of c count = cond (eqb (number_of (front c count)) 0) (c.row - 1) count
+unfoldable pub front : Result CardCall Refusal → ℕ → Option Refusal
+front x count = first_refusal (front_conditions x count)
 
 -- what the caller is told, and the rows afterwards
-unfoldable pub card_told : Limits → CardCall → List CardRow → Told
-card_told l c rows =
-    cond (leb (length rows) (place_of c (length rows))) (tells (front c (length rows)))
-    (step_of l c (get_or rows (place_of c (length rows)) no_row)).told
+unfoldable pub card_told : Limits → Result CardCall Refusal → List CardRow → Told
+card_told l (Ok c) rows =
+    cond (eqb (number_of (front (Ok c) (length rows))) 0) (step_of l c (row_at rows c.row)).told (tells (front (Ok c) (length rows)))
+card_told l (Err k) rows = tells (front (Err k) (length rows))
 
-unfoldable pub card_rows : Limits → CardCall → List CardRow → List CardRow
-card_rows l c rows =
-    cond (leb (length rows) (place_of c (length rows))) rows
-    (set rows (place_of c (length rows)) (step_of l c (get_or rows (place_of c (length rows)) no_row)).row)
+unfoldable pub card_rows : Limits → Result CardCall Refusal → List CardRow → List CardRow
+card_rows l (Ok c) rows = cond (eqb (number_of (front (Ok c) (length rows))) 0) (set rows (c.row - 1) (step_of l c (row_at rows c.row)).row) rows
+card_rows l (Err k) rows = rows
 
 -- ---- what the calls ask of a row, from numbers and buffers, and how they store what is told
 
 abbrev pub card_call : ℕ → ℕ → ℕ → ℕ → Act → CardCall
 card_call engine n unit k act = record { engine = engine; n = n; unit = unit; row = k; act = act }
 
-unfoldable pub propose_asks : Limits → ℕ → ℕ → ℕ → ℕ → ℕ → ℕ → CardCall
+unfoldable pub propose_asks : Limits → ℕ → ℕ → ℕ → ℕ → ℕ → ℕ → Result CardCall Refusal
 propose_asks l engine n unit k v size =
-    cond (not (eqb size (message_size l))) (card_call engine n unit k WrongLength) (card_call engine n unit k (Step (Propose v)))
+    cond (not (eqb size (message_size l))) (Err Refusal.Length) (Ok (card_call engine n unit k (Step (Propose v))))
 
-unfoldable pub deliver_asks : Limits → ℕ → ℕ → ℕ → List ℕ → ℕ → CardCall
+unfoldable pub deliver_asks : Limits → ℕ → ℕ → ℕ → List ℕ → ℕ → Result CardCall Refusal
 deliver_asks l engine n unit message size =
-    cond (wrong_length message (message_size l) || not (eqb size (message_size l))) (card_call engine n unit 0 WrongLength)
-    (cond (bad_message l message) (card_call engine n unit 0 Malformed)
-    (card_call engine n unit (read_message l message).contents.entry (Step (Deliver (read_message l message).contents))))
+    cond (wrong_length message (message_size l) || not (eqb size (message_size l))) (Err Refusal.Length)
+    (cond (bad_message l message) (Err Refusal.Message)
+    (Ok (card_call engine n unit (read_message l message).contents.entry (Step (Deliver (read_message l message).contents)))))
 
 -- a message in an output buffer
 unfoldable pub put_message : Limits → Message → List ℕ → List ℕ

@@ -44,12 +44,9 @@ pub enum UnitStep {
     Deliver(Message),
 }
 
-// What a call asks of its row, or what its buffers were refused for: these are cases and no errors, since 1, 4 and 12 are told in an order of their own
-// once the rows are there. One match on these few cases says as much as a closure for each.
+// What a call asks of its row. One match on these few cases says as much as a closure for each.
 #[derive(Clone, Copy, PartialEq, Eq)]
 pub enum Act {
-    WrongLength,
-    Malformed,
     Start,
     KeyOn,
     Step(UnitStep),

@@ -2,7 +2,7 @@
 // matter, of which the crates of the types know nothing; and a letter that stands for nothing is no error yet, a caller says which refusal it is.
 #![tactic(auto)]
 
-ghost use Rattle.std.specs.Prelude.{◌≡◌, ◌^◌, ltb, Some};
+ghost use Rattle.std.specs.Prelude.{◌≡◌, ◌^◌, cond, ltb, Some, None};
 ghost use Rattle.tally.specs.Limits.{today};
 ghost use Rattle.formats.specs.Formats.{checked};
 ghost use Rattle.formats.specs.Logs.{log_format, log_reading};
@@ -10,6 +10,7 @@ ghost use Rattle.formats.specs.Messages.{message_format, message_reading};
 ghost use Rattle.formats.specs.Codes.{letter_of, engine_of, kind_letter, kind_of, code_of, estimate_of};
 
 use contents::{Kind, Log, Message};
+use tally::limits::Round;
 use tally::{Engine, Estimate, Refusal, limits};
 
 pub fn letter_of(e: Engine) -> u8
@@ -76,11 +77,11 @@ pub fn estimate_of(x: u32) -> Estimate
     }
 }
 
-// Does it fit a round's bytes?
-pub fn round_narrow(x: u32) -> bool
-    ensures { result ≡ ltb x (256 ^ today.round_width) }
+// The round, where it fits a round's bytes.
+pub fn round_of(x: u32) -> Option<Round>
+    ensures { result ≡ cond (ltb x (256 ^ today.round_width)) (Some x) None }
 {
-    x < 65536
+    Round::try_from(x).ok()
 }
 
 // A log that was read, where it is well formed. With the message's alike, and no generic: test, refusal and format are all that is in them.

@@ -1,4 +1,5 @@
 -- Messages for a unit: what the test of the addressee says in plain facts. Assumes nothing.
+use Rattle.std.proofs.lemmas.Bool.{and_parts}
 use mathlib.Core.Path.{◌≡◌, refl, sym}
 use mathlib.Core.Bool.{Bool, true, false, not, ◌&&◌, ◌||◌, or-true}
 use mathlib.Core.Logic.{◌⊎◌, inl, inr}
@@ -9,7 +10,6 @@ use Rattle.contents.specs.Estimates.{same_engine}
 use Rattle.contents.specs.declared.Message.{Message}
 use Rattle.contents.specs.declared.Settings.{Settings}
 use Rattle.contents.proofs.Same.{same_engine_lem, engine_same}
-use Rattle.contents.proofs.Tests.{both_true}
 use Rattle.consensus.specs.Methods.{for_other}
 
 -- the message is for the unit with these settings
@@ -43,9 +43,9 @@ mine_passes s m h =
 pub passes_mine : (s : Settings) (m : Message) → for_other s m ≡ false → Mine s m
 unfolding for_other
 passes_mine s m h =
-    let a = both_true (same_engine s.engine m.engine && eqb s.n m.n && eqb s.entry m.entry) _ (not-false _ h) in
-    let b = both_true (same_engine s.engine m.engine && eqb s.n m.n) _ a.0 in
-    let c = both_true (same_engine s.engine m.engine) _ b.0 in
+    let a = and_parts (same_engine s.engine m.engine && eqb s.n m.n && eqb s.entry m.entry) _ (not-false _ h) in
+    let b = and_parts (same_engine s.engine m.engine && eqb s.n m.n) _ a.0 in
+    let c = and_parts (same_engine s.engine m.engine) _ b.0 in
     record {
       engine = sym (same_engine_lem _ _ c.0);
       n = sym (eqb-true s.n m.n c.1);

@@ -1,5 +1,6 @@
 -- What holds of each branch's answer holds of the step's. Assumes nothing.
 use Rattle.std.specs.Prelude.{Option, Some}
+use Rattle.std.proofs.lemmas.Bool.{and_parts}
 use Prim.Native.Nat.{◌≤◌, ◌<◌}
 use mathlib.Core.Path.{◌≡◌, refl}
 use mathlib.Core.Bool.{Bool, true, false, cond, not, ◌&&◌}
@@ -17,7 +18,6 @@ use Rattle.contents.specs.Estimates.{is_blank}
 use Rattle.contents.specs.declared.Kind.{Kind}
 use Rattle.contents.specs.declared.Kind.TheVariants.{Empty, First, Check, Second, Skip}
 use Rattle.contents.specs.declared.Message.{Message}
-use Rattle.contents.proofs.Tests.{both_true}
 use Rattle.consensus.specs.Methods.{refuses, unless}
 use Rattle.consensus.specs.Conditions.{Condition, condition_number, first_refusal, NoneHolds}
 use Rattle.consensus.specs.Step.{quiet, with_checks, with_seconds, take_first, on_first, is_full, take_second, count_check, checks_with, on_check, at_round}
@@ -43,7 +43,7 @@ module _ (P : Answer → Type 0) where
   by_kind First u m b = by_test (is_blank u.current.first) (b.first refl) (λ e. b.nothing)
   by_kind Check u m b =
       by_test (is_blank u.current.second && not (is_marked u.checks.marks m.sender))
-      (λ e. let p = both_true _ _ e in b.checks refl p.0 (not-true _ p.1))
+      (λ e. let p = and_parts _ _ e in b.checks refl p.0 (not-true _ p.1))
       (λ e. b.nothing)
   by_kind Second u m b = by_test (is_marked u.seconds.marks m.sender) (λ e. b.nothing) (b.seconds refl)
   by_kind Skip u m b = b.nothing

@@ -1,4 +1,5 @@
 -- What the estimates of a tally show, over the units below n: what decides, and what blocks. Assumes nothing.
+use Rattle.std.proofs.lemmas.Bool.{and_parts}
 use Prim.Native.Nat.{ℕ, zero, suc, ◌+◌, ◌≤◌, ◌<◌}
 use mathlib.Core.Path.{◌≡◌, refl, sym, ap, ◌∙◌}
 use mathlib.Core.Bool.{Bool, true, false, cond, not, ◌&&◌}
@@ -28,7 +29,6 @@ use Rattle.tally.proofs.Tallies.{passing_senders, length_gathered, holders_sende
 use Rattle.contents.specs.Estimates.{is_blank, is_b}
 use Rattle.contents.specs.Images.{marked_ok}
 use Rattle.contents.proofs.Facts.{TallyFacts, image_facts, log_facts, only_below}
-use Rattle.contents.proofs.Tests.{both_true}
 use Rattle.consensus.specs.Step.{next_proposal}
 use Rattle.consensus.specs.Units.{WellFormed, unit_log, unit_image}
 use Rattle.consensus.specs.declared.Unit as U
@@ -147,7 +147,7 @@ module _ (n : ℕ) (t : Tally) (p : Proper n t) where
 
       weaker : (s : ℕ) → s < n → (is_marked t.marks s && not (has_value v (estimate_at t s))) ≡ true → others t v s ≡ true
       weaker s b h =
-          let m = both_true (is_marked t.marks s) (not (has_value v (estimate_at t s))) h in
+          let m = and_parts (is_marked t.marks s) (not (has_value v (estimate_at t s))) h in
           let here = voted_placed s (omega (arith, p.low)) m.0 in
           rw here.1 (rw here.0 m.1)
 

@@ -190,7 +190,7 @@ decided_split = refl
 
 -- ---- the methods
 
-none_first : (cs : List Condition) → NoneHolds cs → first_refusal cs ≡ None
+pub none_first : (cs : List Condition) → NoneHolds cs → first_refusal cs ≡ None
 unfolding first_refusal
 none_first [] h = refl
 none_first (r ∷ rs) h = rw h.0 (none_first rs h.1)

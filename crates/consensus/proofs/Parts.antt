@@ -1,4 +1,5 @@
 -- A well-formed unit taken apart, and put together again. Assumes nothing.
+use Rattle.std.proofs.lemmas.Bool.{and_parts}
 use Prim.Native.Nat.{ℕ, zero, suc, ◌≤◌, ◌<◌}
 use mathlib.Core.Logic.{inl, inr}
 use mathlib.Core.Path.{◌≡◌, refl}
@@ -24,7 +25,6 @@ use Rattle.contents.specs.declared.Settings.{Settings}
 use Rattle.contents.specs.declared.State.{State}
 use Rattle.contents.proofs.Facts.{numbers_facts, StateFacts, state_facts, CellFacts, TallyFacts, image_facts}
 use Rattle.contents.proofs.Same.{estimate_same, settings_same, Fits, state_fits_lem}
-use Rattle.contents.proofs.Tests.{both_true}
 use Rattle.consensus.specs.Step.{at_round, clean}
 use Rattle.consensus.specs.Units.{WellFormed, unit_image, at_log}
 use Rattle.consensus.specs.declared.Power.{Power}
@@ -124,7 +124,7 @@ module _ (l : Limits) (u : U.Unit) where
   log_parts : (s : State) → log_ok l (record { settings = u.settings; state = s }) ≡ true
       → (settings_ok u.settings ≡ true) × StateFacts l u.settings.engine s
   unfolding log_ok
-  log_parts s h = let a = both_true _ _ h in (a.0, state_facts l u.settings.engine s a.1)
+  log_parts s h = let a = and_parts _ _ h in (a.0, state_facts l u.settings.engine s a.1)
 
   pub parts : WellFormed l u → Parts l u
   unfolding fits
@@ -137,7 +137,7 @@ module _ (l : Limits) (u : U.Unit) where
             record {
               logged = a.1;
               current = (log_parts u.current i.log).1;
-              fit = (both_true (same_settings u.settings u.settings) _ w.fit).1;
+              fit = (and_parts (same_settings u.settings u.settings) _ w.fit).1;
             };
         checks = record { facts = i.checks; typed = w.checks };
         seconds = record { facts = i.seconds; typed = w.seconds };
@@ -193,7 +193,7 @@ parts_at_round l u w r p above last ok =
 pub parts_at_log : (l : Limits) (p : Power) (r : Log) → log_ok l r ≡ true → Parts l (at_log p r.settings r.state)
 unfolding log_ok at_log
 parts_at_log l p r h =
-    let a = both_true (settings_ok r.settings) _ h in
+    let a = and_parts (settings_ok r.settings) _ h in
     let f = state_facts l r.settings.engine r.state a.1 in
     parts_unmarked l p r.settings a.0 r.state r.state (states_same l _ r.state f)
 

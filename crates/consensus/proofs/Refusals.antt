@@ -1,5 +1,6 @@
 -- Proposing and delivering in plain propositions: what each number refuses, what is accepted, and what number 7 is for. Assumes nothing.
 use Rattle.std.specs.Prelude.{Option, Some}
+use Rattle.std.proofs.lemmas.Bool.{and_parts}
 use Prim.Native.Nat.{ℕ, ◌≤◌, ◌<◌}
 use mathlib.Core.Path.{◌≡◌, refl, sym, ap, ◌∙◌}
 use mathlib.Core.Bool.{Bool, true, false, not, ◌&&◌}
@@ -20,7 +21,6 @@ use Rattle.contents.specs.declared.Kind.{Kind}
 use Rattle.contents.specs.declared.Kind.TheVariants.{Empty, First, Check, Second, Skip}
 use Rattle.contents.specs.declared.Message.{Message}
 use Rattle.contents.proofs.Facts.{image_facts, log_facts}
-use Rattle.contents.proofs.Tests.{both_true}
 use Rattle.consensus.specs.Methods.{out_of_range, is_second, closes_last, unless, propose_conditions, propose, deliver_conditions, deliver}
 use Rattle.consensus.specs.Conditions.{Condition, first_refusal}
 use Rattle.consensus.specs.Step.{is_full, seconds_with, on_kind, proposed, received}
@@ -83,10 +83,10 @@ module _ (l : Limits) (u : U.Unit) (m : Message) where
       let second = is_second m.kind in
       let sent = eqb m.round l.last_round in
       let here = eqb u.current.round l.last_round in
-      let a = both_true (second && sent && here && not (is_marked u.seconds.marks m.sender)) _ h in
-      let b = both_true (second && sent && here) _ a.0 in
-      let c = both_true (second && sent) here b.0 in
-      let d = both_true second sent c.0 in
+      let a = and_parts (second && sent && here && not (is_marked u.seconds.marks m.sender)) _ h in
+      let b = and_parts (second && sent && here) _ a.0 in
+      let c = and_parts (second && sent) here b.0 in
+      let d = and_parts second sent c.0 in
       record {
         kind = is_second_lem m.kind d.0;
         sent = eqb-true _ _ d.1;

@@ -57,7 +57,7 @@ impl Unit {
         }
     }
 
-    // A refusal changes nothing, sends nothing and decides nothing.
+    // A refusal changes nothing, sends nothing and decides nothing. An Option, since the refusal of old had a None: a narrower type would ask more of callers.
     pub fn refused(self, refusal: Option<Refusal>) -> Answer
         ensures { result ≡ refuses self refusal }
     {
@@ -86,9 +86,7 @@ impl Unit {
     fn take(&mut self, m: Message) -> Result<Said, Refusal>
         ensures { taken self.new result ≡ deliver today self.old m }
     {
-        let Some(checked) = Checked::of(m) else {
-            return Err(Refusal::Message);
-        };
+        let checked = Checked::of(m).ok_or(Refusal::Message)?;
         if !is_up(self.power) {
             return Err(Refusal::Power);
         }

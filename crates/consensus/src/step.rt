@@ -114,12 +114,12 @@ fn decided(e: Estimate) -> Estimate
 
 // The proposal of the next round, of the SECONDs gathered.
 #[tactic(auto, unfolding(crate::specs::Step::next_proposal))]
-fn next_proposal(engine: Engine, n: u8, t: &Tally, own: Estimate) -> Estimate
-    ensures { result ≡ next_proposal engine n t.now own }
+fn next_proposal(s: Settings, t: &Tally, own: Estimate) -> Estimate
+    ensures { result ≡ next_proposal s.engine s.n t.now own }
 {
-    match engine {
+    match s.engine {
         Engine::B => or_if_blank(t.lowest(), own),
-        Engine::R => t.majority(tally::majority_size(n)),
+        Engine::R => t.majority(tally::majority_size(s.n)),
     }
 }
 
@@ -318,12 +318,8 @@ impl Unit {
         requires { self.old.current.round ≤ today.last_round }
         ensures { gives self.new result.message result.decision ≡ close self.old t.now }
     {
-        let settings = self.settings;
         let own = self.current.proposal;
-        self.at_round(
-            self.current.round + 1,
-            next_proposal(settings.engine, settings.n, t, own),
-        );
+        self.at_round(self.current.round + 1, next_proposal(self.settings, t, own));
         Said {
             message: EMPTY,
             decision: decided(t.common()),

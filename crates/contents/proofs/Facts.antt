@@ -1,4 +1,5 @@
 -- What well-formed logs, images and messages say of their fields. Assumes nothing.
+use Rattle.std.proofs.lemmas.Bool.{and_parts}
 use Prim.Native.Nat.{ℕ, ◌≤◌, ◌<◌}
 use mathlib.Core.Path.{◌≡◌, refl, sym, ◌∙◌}
 use mathlib.Core.Bool.{Bool, true, false, ◌&&◌, ◌||◌}
@@ -26,7 +27,7 @@ use Rattle.contents.specs.declared.Log.{Log}
 use Rattle.contents.specs.declared.Message.{Message}
 use Rattle.contents.specs.declared.State.{State}
 use Rattle.tally.proofs.Never.{never}
-use Rattle.contents.proofs.Tests.{both_true, or_left, every_at}
+use Rattle.contents.proofs.Tests.{or_left, every_at}
 
 -- an estimate that some place takes: a mileage is in its range
 abbrev pub Known : Limits → Estimate → Type 0
@@ -64,7 +65,7 @@ module _ (l : Limits) where
   unfolding same_mileage
   known_same Blank b h = never h
   known_same Split b h = never h
-  known_same (Mileage m) b h = let a = both_true (in_range l m) (same_estimate (Mileage m) b) h in (leb-true _ _ a.0, same b a.1 (leb-true _ _ a.0))
+  known_same (Mileage m) b h = let a = and_parts (in_range l m) (same_estimate (Mileage m) b) h in (leb-true _ _ a.0, same b a.1 (leb-true _ _ a.0))
     where
       same : (b : Estimate) → same_estimate (Mileage m) b ≡ true → m ≤ l.max_mileage → Known l b
       same Blank e k = tt
@@ -93,10 +94,10 @@ numbers_ok_lem n unit entry f =
 -- and no others
 pub numbers_facts : (n unit entry : ℕ) → numbers_ok n unit entry ≡ true → Numbers n unit entry
 numbers_facts n unit entry h =
-    let a = both_true (leb min_units n && leb n max_units && ltb unit n && leb min_entry entry) (leb entry max_entry) h in
-    let b = both_true (leb min_units n && leb n max_units && ltb unit n) (leb min_entry entry) a.0 in
-    let c = both_true (leb min_units n && leb n max_units) (ltb unit n) b.0 in
-    let d = both_true (leb min_units n) (leb n max_units) c.0 in
+    let a = and_parts (leb min_units n && leb n max_units && ltb unit n && leb min_entry entry) (leb entry max_entry) h in
+    let b = and_parts (leb min_units n && leb n max_units && ltb unit n) (leb min_entry entry) a.0 in
+    let c = and_parts (leb min_units n && leb n max_units) (ltb unit n) b.0 in
+    let d = and_parts (leb min_units n) (leb n max_units) c.0 in
     record {
       n_low = leb-true _ _ d.0;
       n_high = leb-true _ _ d.1;
@@ -123,9 +124,9 @@ unfolding state_ok
 state_facts l g s h =
     let p = mileage_or_blank l s.proposal in
     let f = mileage_or_blank l s.first in
-    let a = both_true (round_ok l s.round && p && f) (second_estimate_ok l g s.second) h in
-    let b = both_true (round_ok l s.round && p) f a.0 in
-    let c = both_true (round_ok l s.round) p b.0 in
+    let a = and_parts (round_ok l s.round && p && f) (second_estimate_ok l g s.second) h in
+    let b = and_parts (round_ok l s.round && p) f a.0 in
+    let c = and_parts (round_ok l s.round) p b.0 in
     record { round = leb-true _ _ c.0; proposal = c.1; first = b.1; second = a.1 }
 
 pub record LogFacts (l : Limits) (r : Log) : Type 0 where
@@ -135,7 +136,7 @@ pub record LogFacts (l : Limits) (r : Log) : Type 0 where
 pub log_facts : (l : Limits) (r : Log) → log_ok l r ≡ true → LogFacts l r
 unfolding log_ok
 log_facts l r h =
-    let a = both_true (settings_ok r.settings) (state_ok l r.settings.engine r.state) h in
+    let a = and_parts (settings_ok r.settings) (state_ok l r.settings.engine r.state) h in
     record { numbers = numbers_facts _ _ _ a.0; state = state_facts l r.settings.engine r.state a.1 }
 
 -- what the rules of all kinds have in common
@@ -147,7 +148,7 @@ pub record KindFacts (l : Limits) (m : Message) : Type 0 where
 first_facts : (l : Limits) (m : Message) → first_ok l m ≡ true → KindFacts l m
 unfolding first_ok
 first_facts l m h =
-    let a = both_true (eqb m.receiver everyone) (same_mileage l m.estimate m.proposal) h in
+    let a = and_parts (eqb m.receiver everyone) (same_mileage l m.estimate m.proposal) h in
     let k = known_same l m.estimate m.proposal a.1 in
     record { receiver = omega (arith, eqb-true m.receiver everyone a.0); estimate = k.0; proposal = k.1 }
 
@@ -155,18 +156,18 @@ kind_facts : (l : Limits) (k : Kind) (m : Message) → m.n ≤ max_units → kin
 unfolding kind_ok check_ok second_ok skip_ok mileage_or_split
 kind_facts l Empty m n h = never h
 kind_facts l First m n h = first_facts l m h
-kind_facts l Check m n h = first_facts l m (both_true (is_b m.engine) (first_ok l m) h).1
+kind_facts l Check m n h = first_facts l m (and_parts (is_b m.engine) (first_ok l m) h).1
 kind_facts l Second m n h =
-    let a = both_true (eqb m.receiver everyone && mileage_or_split l m.engine m.estimate) (mileage_or_blank l m.proposal) h in
-    let b = both_true (eqb m.receiver everyone) (mileage_or_split l m.engine m.estimate) a.0 in
+    let a = and_parts (eqb m.receiver everyone && mileage_or_split l m.engine m.estimate) (mileage_or_blank l m.proposal) h in
+    let b = and_parts (eqb m.receiver everyone) (mileage_or_split l m.engine m.estimate) a.0 in
     record {
       receiver = omega (arith, eqb-true m.receiver everyone b.0);
       estimate = known_or_split l (is_b m.engine) m.estimate b.1;
       proposal = known_or_blank l m.proposal a.1;
     }
 kind_facts l Skip m n h =
-    let a = both_true (ltb m.receiver m.n && is_blank m.estimate) (mileage_or_blank l m.proposal) h in
-    let b = both_true (ltb m.receiver m.n) (is_blank m.estimate) a.0 in
+    let a = and_parts (ltb m.receiver m.n && is_blank m.estimate) (mileage_or_blank l m.proposal) h in
+    let b = and_parts (ltb m.receiver m.n) (is_blank m.estimate) a.0 in
     record {
       receiver = omega (arith, ltb-true m.receiver m.n b.0);
       estimate = known_blank l m.estimate b.1;
@@ -182,8 +183,8 @@ pub record MessageFacts (l : Limits) (m : Message) : Type 0 where
 pub message_facts : (l : Limits) (m : Message) → message_ok l m ≡ true → MessageFacts l m
 unfolding message_ok
 message_facts l m h =
-    let a = both_true (numbers_ok m.n m.sender m.entry && round_ok l m.round) (kind_ok l m.kind m) h in
-    let b = both_true (numbers_ok m.n m.sender m.entry) (round_ok l m.round) a.0 in
+    let a = and_parts (numbers_ok m.n m.sender m.entry && round_ok l m.round) (kind_ok l m.kind m) h in
+    let b = and_parts (numbers_ok m.n m.sender m.entry) (round_ok l m.round) a.0 in
     let n = numbers_facts _ _ _ b.0 in
     record { numbers = n; round = leb-true _ _ b.1; kind = a.1; fields = kind_facts l m.kind m n.n_high a.1 }
 
@@ -197,8 +198,8 @@ cell_facts : (l : Limits) (split : Bool) (n s : ℕ) (marked : Bool) (e : Estima
     → CellFacts l split n s marked e
 unfolding cell_ok
 cell_facts l split n s marked e h =
-    let a = both_true (below_ok n s marked && unmarked_ok marked e) (marked_ok l split marked e) h in
-    let b = both_true (below_ok n s marked) (unmarked_ok marked e) a.0 in
+    let a = and_parts (below_ok n s marked && unmarked_ok marked e) (marked_ok l split marked e) h in
+    let b = and_parts (below_ok n s marked) (unmarked_ok marked e) a.0 in
     record { below = b.0; unmarked = b.1; vote = a.1 }
 
 pub known_cell : (l : Limits) (split : Bool) (n s : ℕ) (marked : Bool) (e : Estimate) → CellFacts l split n s marked e → Known l e
@@ -220,7 +221,7 @@ only_below l split g n t f u above b = go (is_marked t.marks u) (f.places u b).b
 tally_facts : (l : Limits) (split : Bool) (g : Engine) (n : ℕ) (t : Tally) → tally_ok l split g n t ≡ true → TallyFacts l split g n t
 unfolding tally_ok cells_ok
 tally_facts l split g n t h =
-    let a = both_true (cells_ok l split n t) (ltb (ones t.marks) (quorum_of g n)) h in
+    let a = and_parts (cells_ok l split n t) (ltb (ones t.marks) (quorum_of g n)) h in
     record {
       places = λ s b. cell_facts l split n s (is_marked t.marks s) (estimate_at t s)
           (every_at senders (λ u. cell_ok l split n u (is_marked t.marks u) (estimate_at t u)) a.0 s b);
@@ -240,7 +241,7 @@ image_facts l i h =
     let n = i.settings.n in
     let c = tally_ok l false g n i.checks in
     let s = tally_ok l (is_b g) g n i.seconds in
-    let a = both_true (log_ok l (image_log i) && c && s) (checks_allowed g i.state.second i.checks.marks) h in
-    let b = both_true (log_ok l (image_log i) && c) s a.0 in
-    let d = both_true (log_ok l (image_log i)) c b.0 in
+    let a = and_parts (log_ok l (image_log i) && c && s) (checks_allowed g i.state.second i.checks.marks) h in
+    let b = and_parts (log_ok l (image_log i) && c) s a.0 in
+    let d = and_parts (log_ok l (image_log i)) c b.0 in
     record { log = d.0; checks = tally_facts l false g n i.checks d.1; seconds = tally_facts l (is_b g) g n i.seconds b.1; unchecked = a.1 }

@@ -1,4 +1,5 @@
 -- Engines, estimates and settings that test the same are the same, and what a fit says. Assumes nothing.
+use Rattle.std.proofs.lemmas.Bool.{and_parts}
 use Prim.Native.Nat.{ℕ, ◌<◌}
 use mathlib.Core.Path.{◌≡◌, refl, sym, ap}
 use mathlib.Core.Bool.{Bool, true, false, ◌&&◌, ◌||◌}
@@ -14,7 +15,6 @@ use Rattle.contents.specs.Images.{same_settings, state_fits}
 use Rattle.contents.specs.declared.Settings.{Settings}
 use Rattle.contents.specs.declared.State.{State}
 use Rattle.tally.proofs.Never.{never}
-use Rattle.contents.proofs.Tests.{both_true}
 
 pub same_engine_lem : (a b : Engine) → same_engine a b ≡ true → a ≡ b
 same_engine_lem B B h = refl
@@ -48,9 +48,9 @@ settings e n u t = record { engine = e; n = n; unit = u; entry = t }
 pub same_settings_lem : (a b : Settings) → same_settings a b ≡ true → a ≡ b
 unfolding same_settings
 same_settings_lem a b h =
-    let p = both_true (same_engine a.engine b.engine && eqb a.n b.n && eqb a.unit b.unit) (eqb a.entry b.entry) h in
-    let q = both_true (same_engine a.engine b.engine && eqb a.n b.n) (eqb a.unit b.unit) p.0 in
-    let r = both_true (same_engine a.engine b.engine) (eqb a.n b.n) q.0 in
+    let p = and_parts (same_engine a.engine b.engine && eqb a.n b.n && eqb a.unit b.unit) (eqb a.entry b.entry) h in
+    let q = and_parts (same_engine a.engine b.engine && eqb a.n b.n) (eqb a.unit b.unit) p.0 in
+    let r = and_parts (same_engine a.engine b.engine) (eqb a.n b.n) q.0 in
     let fields : ◌≡◌ {A = Settings} (settings a.engine a.n a.unit a.entry) (settings b.engine b.n b.unit b.entry) =
     cc (
       same_engine_lem a.engine b.engine r.0,
@@ -78,10 +78,10 @@ state_fits_lem i s h = go (eqb i.round s.round && same_estimate i.first s.first 
     go : (b : Bool) → (eqb i.round s.round && same_estimate i.first s.first && same_estimate i.second s.second) ≡ b
         → (b || (ltb s.round i.round && is_blank i.first && is_blank i.second)) ≡ true → Fits i s
     go false e h =
-        let p = both_true (ltb s.round i.round && is_blank i.first) (is_blank i.second) h in
-        let q = both_true (ltb s.round i.round) (is_blank i.first) p.0 in
+        let p = and_parts (ltb s.round i.round && is_blank i.first) (is_blank i.second) h in
+        let q = and_parts (ltb s.round i.round) (is_blank i.first) p.0 in
         inl (ltb-true _ _ q.0, (sym (same_estimate_lem Blank _ q.1), sym (same_estimate_lem Blank _ p.1)))
     go true e h =
-        let p = both_true _ _ e in
-        let q = both_true (eqb i.round s.round) _ p.0 in
+        let p = and_parts _ _ e in
+        let q = and_parts (eqb i.round s.round) _ p.0 in
         inr (sym (eqb-true i.round s.round q.0), (sym (same_estimate_lem _ _ q.1), sym (same_estimate_lem _ _ p.1)))

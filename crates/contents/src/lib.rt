@@ -50,7 +50,8 @@ pub enum Kind {
     Skip,
 }
 
-// A message, with the sender's engine, n and entry. The receiver is a unit, or everyone.
+// A message, with the sender's engine, n and entry. The receiver is a unit, or everyone: a unit's number or 255, as the bytes have it, since an enum of both
+// would be made and taken apart for the same two comparisons.
 #[derive(Clone, Copy, PartialEq, Eq)]
 pub struct Message {
     pub kind: Kind,

@@ -17,10 +17,8 @@ use tally::{Refusal, limits};
 pub fn read_log(log: &[u8], fields: &mut [u32]) -> Result<(), Refusal>
     ensures { wrote (number_of (result_err result)) fields.new ≡ read_log_call today log.now fields.old }
 {
-    if fields.len() != limits::LOG_FIELDS {
-        return Err(Refusal::Length);
-    }
-    fields.copy_from_slice(&numbers::log_numbers(log_codec::read_log(log)?));
+    let fields: &mut LogNumbers = fields.as_mut_array().ok_or(Refusal::Length)?;
+    *fields = numbers::log_numbers(log_codec::read_log(log)?);
     Ok(())
 }
 
@@ -42,10 +40,8 @@ pub fn write_log(fields: &[u32], log: &mut [u8]) -> Result<(), Refusal>
 pub fn read_message(message: &[u8], fields: &mut [u32]) -> Result<(), Refusal>
     ensures { wrote (number_of (result_err result)) fields.new ≡ read_message_call today message.now fields.old }
 {
-    if fields.len() != limits::MESSAGE_FIELDS {
-        return Err(Refusal::Length);
-    }
-    fields.copy_from_slice(&numbers::message_numbers(message_codec::read_message(message)?));
+    let fields: &mut MessageNumbers = fields.as_mut_array().ok_or(Refusal::Length)?;
+    *fields = numbers::message_numbers(message_codec::read_message(message)?);
     Ok(())
 }
 

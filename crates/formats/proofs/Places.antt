@@ -1,5 +1,6 @@
 -- An image's bytes as its parts, one after the other: what is read at a part's place, and what a write there leaves. Assumes nothing.
 use Rattle.std.specs.Prelude.{Some, None}
+use Rattle.std.proofs.lemmas.Bool.{and_parts}
 use Prim.Native.Nat.{ℕ, zero, suc, ◌+◌, ◌*◌, ◌^◌, ◌<◌}
 use mathlib.Core.Path.{◌≡◌, refl, sym, ap, ◌∙◌}
 use mathlib.Core.Bool.{Bool, true, false, cond, ◌&&◌}
@@ -9,22 +10,21 @@ use lib.Dec.{eqb}
 use lib.ListN.{length, get_or, replicate, length-append}
 use borrow.Author.Tests.{eq-eqb, ne_eqb, eqb-true}
 use Rattle.tally.specs.Limits.{today, image_size, senders}
-use Rattle.tally.specs.Tally.{Typed, is_marked, blank_cell, estimate_at, held}
+use Rattle.tally.specs.Tally.{Typed, blank_cell, estimate_at}
 use Rattle.tally.specs.declared.Engine.{Engine}
-use Rattle.tally.specs.declared.Estimate.TheVariants.{Blank}
 use Rattle.tally.specs.declared.Tally.{Tally}
 use Rattle.tally.specs.Refusal.{number_of}
 use Rattle.tally.specs.declared.Refusal.{Refusal}
 use Rattle.tally.proofs.Bounds.{sane_today}
+use Rattle.tally.proofs.Never.{never}
 use Rattle.contents.specs.Images.{image_ok, fits}
 use Rattle.contents.specs.declared.Image.{Image}
 use Rattle.contents.specs.declared.Log.{Log}
 use Rattle.contents.specs.declared.Settings.{Settings}
 use Rattle.contents.specs.declared.State.{State}
 use Rattle.contents.proofs.Facts.{TallyFacts, image_facts}
-use Rattle.contents.proofs.Tests.{both_true}
 use Rattle.formats.specs.Codes.{letter_of, code_of, estimate_of}
-use Rattle.formats.specs.Formats.{reading, checked, with_zero}
+use Rattle.formats.specs.Formats.{ReadAnswer, reading, checked, with_zero}
 use Rattle.formats.specs.Images.{TypedImage, cell_of, cell_code, cell_widths, tally_widths, tally_of, tally_numbers, with_tallies, image_widths, image_numbers}
 use Rattle.formats.specs.Images.{image_format, image_bytes, no_image}
 use Rattle.formats.specs.InnerImages.{tally_at, fit_state, checks_at, seconds_at, in_image, as_marked, tally_from, state_over, tally_over, image_over}
@@ -50,12 +50,6 @@ cell_at (suc n) (suc k) o bs h =
     let e : o + 4 + 4 * k ≡ o + 4 * suc k = omega arith in
     cell_at n k (o + 4) bs (omega arith) ∙ ap (λ (x : ℕ). cell_of (num_at bs x 4)) e
 
-pub held_at : (marks o k : ℕ) (bs : List ℕ) → k < senders
-    → held (record { marks = marks; cells = map cell_of (unpack o cell_widths bs) }) k
-    ≡ cond (is_marked marks k) (estimate_of (num_at bs (o + 4 * k) 4)) Blank
-unfolding held
-held_at marks o k bs h = rw (cell_at senders k o bs h)
-
 pub estimate_at_lem : (o k : ℕ) (bs : List ℕ) → k < senders → estimate_at (tally_at o bs) k ≡ estimate_of (num_at bs (o + 2 + 4 * k) 4)
 estimate_at_lem o k bs h = rw (cell_at senders k (o + 2) bs h)
 
@@ -70,6 +64,27 @@ fit_checked i log = go (image_ok today i)
         ≡ cond (b && fits i log) (Some i.state) None
     go true = refl
     go false = refl
+
+-- an image that does not fit a log, and the state of one that does
+module _ (x : ReadAnswer Image) (log : Log) where
+  abbrev fit : Bool
+  fit = eqb x.number 0 && fits x.contents log
+
+  pub fit_none : fit_state x log ≡ None → fit ≡ false
+  unfolding fit_state
+  fit_none e = go fit refl e
+    where
+      go : (t : Bool) → fit ≡ t → cond t (Some x.contents.state) None ≡ None → fit ≡ false
+      go true b e = never cc
+      go false b e = b
+
+  pub fit_some : (s : State) → fit_state x log ≡ Some s → (fit ≡ true) × (x.contents.state ≡ s)
+  unfolding fit_state
+  fit_some s e = go fit refl e
+    where
+      go : (t : Bool) → fit ≡ t → cond t (Some x.contents.state) None ≡ Some s → (fit ≡ true) × (x.contents.state ≡ s)
+      go true b e = (b, cc)
+      go false b e = never cc
 
 -- ---- the parts
 
@@ -167,7 +182,7 @@ tally_over_lem same t old p q o typed len kept = rw there (go (same && eqb t.mar
         → cond b (p ++ (tally_bytes old ++ q)) (pack_into (p ++ (tally_bytes old ++ q)) o tally_widths (tally_numbers (as_marked t)))
         ≡ p ++ (tally_bytes (as_marked t) ++ q)
     go true e =
-        let h = both_true same (eqb t.marks old.marks) e in
+        let h = and_parts same (eqb t.marks old.marks) e in
         ap (λ (x : Tally). p ++ (tally_bytes x ++ q)) (sym (kept h.0 (eqb-true _ _ h.1)))
     go false e =
         pack_into_part tally_widths (tally_numbers (as_marked t)) p (tally_bytes old) q o len (length_counted old typed.cells)

@@ -7,15 +7,20 @@ use mathlib.Core.List.{List}
 use native.Mathlib.Omega.{arith}
 use lib.Dec.{eqb}
 use lib.ListN.{length, get_or}
-use borrow.Author.Tests.{eq-eqb, ne_eqb}
+use borrow.Author.Tests.{eq-eqb, ne_eqb, eqb-true}
 use Rattle.tally.specs.Refusal.{number_of}
 use Rattle.tally.specs.declared.Engine.{Engine}
 use Rattle.tally.specs.declared.Refusal.TheVariants.{Length}
 use Rattle.formats.specs.Codes.{engine_of, with_engine}
-use Rattle.formats.specs.Formats.{reading, wrote, Format, with_zero, numbers_in, zero_byte, checked, from_numbers, read_bytes, to_bytes, write_bytes}
+use Rattle.formats.specs.Formats.{ReadAnswer, reading, wrote, Format, with_zero, numbers_in, zero_byte, checked, from_numbers}
+use Rattle.formats.specs.Formats.{read_bytes, to_bytes, write_bytes}
 use Rattle.formats.specs.InnerNumbers.{pack_into, total}
 use Rattle.formats.specs.InnerFormats.{stored}
 use Rattle.formats.proofs.Packed.{pack_into_eq}
+
+-- contents that were read with the number 0
+pub was_read : {A : Type 0} (r : ReadAnswer A) → eqb r.number 0 ≡ true → r ≡ reading 0 r.contents
+was_read r e = rw (← eqb-true r.number 0 e)
 
 module _ {A : Type 0} (f : Format A) (bs : List ℕ) where
   pub read_length : (length bs ≡ f.size → ⊥) → read_bytes f bs ≡ reading (number_of (Some Length)) f.nothing

@@ -129,9 +129,6 @@ pub fn write_log(log: Log, out: &mut [u8]) -> Result<(), Refusal>
     if out.len() != limits::LOG_SIZE {
         return Err(Refusal::Length);
     }
-    if !rules::logs::well_formed(log) {
-        return Err(Refusal::Log);
-    }
-    put_log(log, out);
+    put_log(codes::checked_log(log)?, out);
     Ok(())
 }

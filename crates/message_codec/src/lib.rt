@@ -1,14 +1,13 @@
 // The 18 bytes of a message. A wrong length is refused first, then malformed contents. Reading, storing and writing are as log_codec's, and no trait of
-// both: a trait's impl stands in the trait's crate or the type's, so both codecs would be one crate, and its members would say as much as these few lines.
+// both: its members would say as much as these few lines.
 #![tactic(auto)]
 
-ghost use Rattle.std.specs.Prelude.{◌≡◌, length};
+ghost use Rattle.std.specs.Prelude.{◌≡◌};
 ghost use Rattle.std.specs.Result.{result_err};
-ghost use Rattle.tally.specs.Limits.{today, message_size};
+ghost use Rattle.tally.specs.Limits.{today};
 ghost use Rattle.tally.specs.Refusal.{number_of};
-ghost use Rattle.formats.specs.InnerNumbers.{pack_into};
-ghost use Rattle.formats.specs.Formats.{with_zero, wrote};
-ghost use Rattle.formats.specs.Messages.{message_widths, message_zero, message_of, message_numbers, message_format, message_reading, cleared};
+ghost use Rattle.formats.specs.Formats.{to_bytes, wrote};
+ghost use Rattle.formats.specs.Messages.{message_of, message_format, message_reading, cleared};
 ghost use Rattle.formats.specs.Messages.{read_message, write_message};
 ghost use Rattle.formats.specs.InnerMessages.{message_numbers_in};
 ghost use Rattle.formats.specs.InnerFormats.{stored};
@@ -36,9 +35,10 @@ const AT_ESTIMATE: usize = AT_ROUND + limits::ROUND_WIDTH;
 
 const AT_PROPOSAL: usize = AT_ESTIMATE + 4;
 
+type MessageBytes = [u8; limits::MESSAGE_SIZE];
+
 // The contents that the bytes hold, at a kind and an engine.
-fn message_at(kind: Kind, engine: Engine, s: &[u8]) -> Message
-    requires { length s.now ≡ message_size today }
+fn message_at(kind: Kind, engine: Engine, s: &MessageBytes) -> Message
     ensures { result ≡ message_of kind engine (message_numbers_in today s.now) }
 {
     Message {
@@ -59,9 +59,7 @@ fn message_at(kind: Kind, engine: Engine, s: &[u8]) -> Message
 pub fn read_message(s: &[u8]) -> Result<Message, Refusal>
     ensures { message_reading result ≡ read_message today s.now }
 {
-    if s.len() != limits::MESSAGE_SIZE {
-        return Err(Refusal::Length);
-    }
+    let s: &MessageBytes = s.as_array().ok_or(Refusal::Length)?;
     if u8::get(s, AT_ZERO) != 0 {
         return Err(Refusal::Message);
     }
@@ -70,9 +68,8 @@ pub fn read_message(s: &[u8]) -> Result<Message, Refusal>
     codes::checked_message(message_at(kind, engine, s))
 }
 
-fn put_message(m: Message, out: &mut [u8])
-    requires { length out.old ≡ message_size today }
-    ensures { out.new ≡ pack_into out.old 0 (message_widths today) (with_zero message_zero (message_numbers m)) }
+fn put_message(m: Message, out: &mut MessageBytes)
+    ensures { out.new ≡ to_bytes (message_format today) m }
 {
     codes::kind_letter(m.kind).put(out, 0);
     codes::letter_of(m.engine).put(out, AT_ENGINE);
@@ -101,7 +98,7 @@ pub fn clear(out: &mut [u8])
 pub fn store_message(m: Message, out: &mut [u8])
     ensures { out.new ≡ stored (message_format today) m out.old }
 {
-    if out.len() == limits::MESSAGE_SIZE {
+    if let Some(out) = out.as_mut_array() {
         put_message(m, out);
     }
 }
@@ -112,12 +109,7 @@ pub fn write_message(m: Message, out: &mut [u8]) -> Result<(), Refusal>
     ensures { wrote (number_of (result_err result)) out.new ≡ write_message today m out.old }
 {
     clear(out);
-    if out.len() != limits::MESSAGE_SIZE {
-        return Err(Refusal::Length);
-    }
-    if !rules::messages::well_formed(m) {
-        return Err(Refusal::Message);
-    }
-    put_message(m, out);
+    let out: &mut MessageBytes = out.as_mut_array().ok_or(Refusal::Length)?;
+    put_message(codes::checked_message(m)?, out);
     Ok(())
 }

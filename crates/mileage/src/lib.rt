@@ -10,7 +10,7 @@ ghost use Rattle.calls.specs.Calls.{called, start_call, key_on_call, propose_cal
 ghost use Rattle.cards.specs.Calls.{card_called, beside, card_start_call, card_key_on_call, card_propose_call, card_deliver_call};
 ghost use Rattle.mileage.specs.Version.{version};
 
-use cards::CardRow;
+use cards::{Act, CardRow};
 
 // As specs/Version.antt has it, and the header.
 const VERSION: u32 = 2;
@@ -114,8 +114,8 @@ pub extern "C" fn mileage_card_start(
 ) -> u32
     ensures { card_called result rows.new [] blank_code ≡ card_start_call today (beside engine n unit) rows.old row }
 {
-    let c = card_calls::buffers::start_asks(engine, n, unit, row);
-    card_calls::buffers::number_of(card_calls::on_row(c, rows))
+    let c = card_calls::buffers::card_call(engine, n, unit, row, Act::Start);
+    tally::number(card_calls::on_row(Ok(c), rows).refusal)
 }
 
 // Key-on of a row of a card: of the row its log alone has a part in it.
@@ -129,8 +129,8 @@ pub extern "C" fn mileage_card_key_on(
 ) -> u32
     ensures { card_called result rows.new [] blank_code ≡ card_key_on_call today (beside engine n unit) rows.old row }
 {
-    let c = card_calls::buffers::key_on_asks(engine, n, unit, row);
-    card_calls::buffers::number_of(card_calls::on_row(c, rows))
+    let c = card_calls::buffers::card_call(engine, n, unit, row, Act::KeyOn);
+    tally::number(card_calls::on_row(Ok(c), rows).refusal)
 }
 
 // Proposes a mileage for a row of a card: writes the row's image and a message, and no log.
@@ -147,9 +147,10 @@ pub extern "C" fn mileage_card_propose(
     ensures { card_called result rows.new out.new blank_code
         ≡ card_propose_call today (beside engine n unit) rows.old row mileage out.old }
 {
-    let c = card_calls::buffers::propose_asks(engine, n, unit, row, mileage, out.len());
-    let t = card_calls::on_row(c, rows);
-    card_calls::buffers::tell_message(t, out)
+    let asked = card_calls::buffers::propose_asks(engine, n, unit, row, mileage, out.len());
+    let t = card_calls::on_row(asked, rows);
+    card_calls::buffers::put_message(t.message, out);
+    tally::number(t.refusal)
 }
 
 // Delivers a message to the row of its entry. The decision is always written.
@@ -166,7 +167,8 @@ pub extern "C" fn mileage_card_deliver(
     ensures { card_called result rows.new out.new decision.new
         ≡ card_deliver_call today (beside engine n unit) rows.old message.now out.old }
 {
-    let c = card_calls::buffers::deliver_asks(engine, n, unit, message, out.len());
-    let t = card_calls::on_row(c, rows);
-    card_calls::buffers::tell(t, out, decision)
+    let asked = card_calls::buffers::deliver_asks(engine, n, unit, message, out.len());
+    let t = card_calls::on_row(asked, rows);
+    card_calls::buffers::put_told(t, out, decision);
+    tally::number(t.refusal)
 }

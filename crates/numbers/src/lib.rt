@@ -2,82 +2,64 @@
 // alone, and contents has no code. Log and message are two by two alike, as message_codec says.
 #![tactic(auto)]
 
-ghost use Rattle.std.specs.Prelude.{◌≡◌};
+ghost use Rattle.std.specs.Prelude.{◌≡◌, cond, None};
 ghost use Rattle.tally.specs.Limits.{today};
+ghost use Rattle.formats.specs.Codes.{engine_of};
 ghost use Rattle.formats.specs.Formats.{from_numbers};
-ghost use Rattle.formats.specs.Logs.{log_numbers, log_format, log_reading};
-ghost use Rattle.formats.specs.Messages.{message_numbers, message_format, message_reading};
+ghost use Rattle.formats.specs.Logs.{parse_log, log_numbers, log_format, log_reading};
+ghost use Rattle.formats.specs.Messages.{parse_message, message_numbers, message_format, message_reading};
 ghost use Rattle.calls.specs.InnerFields.{log_narrow, message_narrow};
-ghost use Rattle.calls.specs.InnerCalls.{settings_narrow, settings_from};
+ghost use Rattle.calls.specs.InnerCalls.{settings_narrow, settings_known, settings_from};
 
 use contents::{Log, Message, Settings, State};
-use tally::limits::Round;
 use tally::{Refusal, limits};
 
 pub type LogNumbers = [u32; limits::LOG_FIELDS];
 
 pub type MessageNumbers = [u32; limits::MESSAGE_FIELDS];
 
-// Do the numbers of a start fit their types?
-#[tactic(auto, unfolding(calls::specs::InnerCalls::settings_narrow))]
-fn settings_narrow(engine: u32, n: u32, unit: u32, entry: u32) -> bool
-    ensures { result ≡ settings_narrow engine n unit entry }
+// The settings of numbers that fit their types, in range or not: numbers one by one, as the C entries have them. The engine is its letter's number.
+#[tactic(auto, unfolding(calls::specs::InnerCalls::settings_narrow, calls::specs::InnerCalls::settings_known))]
+fn narrow_settings(engine: u32, n: u32, unit: u32, entry: u32) -> Option<Settings>
+    ensures { result ≡ cond (settings_narrow engine n unit entry) (settings_known (engine_of engine) n unit entry) None }
 {
-    (engine < 256) & (n < 256) & (unit < 256) & (entry < 65536)
+    Some(Settings {
+        engine: codes::engine_of(u8::try_from(engine).ok()?)?,
+        n: u8::try_from(n).ok()?,
+        unit: u8::try_from(unit).ok()?,
+        entry: u16::try_from(entry).ok()?,
+    })
 }
 
-// The settings of a start's numbers, where they are in range. The engine is its letter's number.
-#[tactic(auto, unfolding(calls::specs::Calls::bad_settings, calls::specs::InnerCalls::settings_narrow))]
+// The settings of a start's numbers, where they are in range.
 pub fn settings_from(engine: u32, n: u32, unit: u32, entry: u32) -> Option<Settings>
     ensures { result ≡ settings_from engine n unit entry }
 {
-    if !settings_narrow(engine, n, unit, entry) {
-        return None;
-    }
-    let settings = Settings {
-        engine: codes::engine_of(engine as u8)?,
-        n: n as u8,
-        unit: unit as u8,
-        entry: entry as u16,
-    };
-    if rules::logs::settings_ok(settings) {
-        Some(settings)
-    } else {
-        None
-    }
+    narrow_settings(engine, n, unit, entry).filter(|s| rules::logs::settings_ok(*s))
 }
 
-// Does each number fit its bytes?
-#[tactic(auto, unfolding(calls::specs::InnerFields::log_narrow))]
-fn log_narrow(f: &LogNumbers) -> bool
-    ensures { result ≡ log_narrow today f.now }
+// The log of eight numbers that fit their bytes.
+#[tactic(auto, unfolding(calls::specs::InnerFields::log_narrow, calls::specs::InnerCalls::settings_narrow, calls::specs::InnerCalls::settings_known))]
+fn narrow_log(f: &LogNumbers) -> Option<Log>
+    ensures { result ≡ cond (log_narrow today f.now) (parse_log f.now) None }
 {
-    (f[0] < 256) & (f[1] < 256) & (f[2] < 256) & (f[3] < 65536) & codes::round_narrow(f[4])
+    let [engine, n, unit, entry, round, proposal, first, second] = *f;
+    Some(Log {
+        settings: narrow_settings(engine, n, unit, entry)?,
+        state: State {
+            round: codes::round_of(round)?,
+            proposal: codes::estimate_of(proposal),
+            first: codes::estimate_of(first),
+            second: codes::estimate_of(second),
+        },
+    })
 }
 
 // The log of eight numbers, where they are well formed.
-#[tactic(auto, unfolding(calls::specs::InnerFields::log_narrow))]
 pub fn log_from(f: &LogNumbers) -> Result<Log, Refusal>
     ensures { log_reading result ≡ from_numbers (log_format today) f.now }
 {
-    if !log_narrow(f) {
-        return Err(Refusal::Log);
-    }
-    let log = Log {
-        settings: Settings {
-            engine: codes::engine_of(f[0] as u8).ok_or(Refusal::Log)?,
-            n: f[1] as u8,
-            unit: f[2] as u8,
-            entry: f[3] as u16,
-        },
-        state: State {
-            round: f[4] as Round,
-            proposal: codes::estimate_of(f[5]),
-            first: codes::estimate_of(f[6]),
-            second: codes::estimate_of(f[7]),
-        },
-    };
-    codes::checked_log(log)
+    codes::checked_log(narrow_log(f).ok_or(Refusal::Log)?)
 }
 
 pub fn log_numbers(log: Log) -> LogNumbers
@@ -95,39 +77,40 @@ pub fn log_numbers(log: Log) -> LogNumbers
     ]
 }
 
-#[tactic(auto, unfolding(calls::specs::InnerFields::message_narrow))]
-fn message_narrow(f: &MessageNumbers) -> bool
-    ensures { result ≡ message_narrow today f.now }
+// The message of nine numbers that fit their bytes.
+#[tactic(auto, unfolding(calls::specs::InnerFields::message_narrow, formats::specs::Messages::letters_read))]
+fn narrow_message(f: &MessageNumbers) -> Option<Message>
+    ensures { result ≡ cond (message_narrow today f.now) (parse_message f.now) None }
 {
-    (f[0] < 256)
-        & (f[1] < 256)
-        & (f[2] < 256)
-        & (f[3] < 256)
-        & (f[4] < 256)
-        & (f[5] < 65536)
-        & codes::round_narrow(f[6])
+    let [
+        kind,
+        engine,
+        n,
+        sender,
+        receiver,
+        entry,
+        round,
+        estimate,
+        proposal,
+    ] = *f;
+    Some(Message {
+        kind: codes::kind_of(u8::try_from(kind).ok()?)?,
+        engine: codes::engine_of(u8::try_from(engine).ok()?)?,
+        n: u8::try_from(n).ok()?,
+        sender: u8::try_from(sender).ok()?,
+        receiver: u8::try_from(receiver).ok()?,
+        entry: u16::try_from(entry).ok()?,
+        round: codes::round_of(round)?,
+        estimate: codes::estimate_of(estimate),
+        proposal: codes::estimate_of(proposal),
+    })
 }
 
 // The message of nine numbers, where they are well formed.
-#[tactic(auto, unfolding(calls::specs::InnerFields::message_narrow))]
 pub fn message_from(f: &MessageNumbers) -> Result<Message, Refusal>
     ensures { message_reading result ≡ from_numbers (message_format today) f.now }
 {
-    if !message_narrow(f) {
-        return Err(Refusal::Message);
-    }
-    let m = Message {
-        kind: codes::kind_of(f[0] as u8).ok_or(Refusal::Message)?,
-        engine: codes::engine_of(f[1] as u8).ok_or(Refusal::Message)?,
-        n: f[2] as u8,
-        sender: f[3] as u8,
-        receiver: f[4] as u8,
-        entry: f[5] as u16,
-        round: f[6] as Round,
-        estimate: codes::estimate_of(f[7]),
-        proposal: codes::estimate_of(f[8]),
-    };
-    codes::checked_message(m)
+    codes::checked_message(narrow_message(f).ok_or(Refusal::Message)?)
 }
 
 pub fn message_numbers(m: Message) -> MessageNumbers

@@ -18,6 +18,7 @@ pub trait StandingTally {
     fn marks(&self) -> u16
         ensures { result ≡ (tally self.now).marks };
 
+    // The sender's bound is asked for, as tally::is_marked says.
     fn estimate(&self, sender: u8) -> Estimate
         requires { sender < senders }
         ensures { result ≡ estimate_at (tally self.now) sender };
@@ -31,6 +32,7 @@ pub trait StandingTally {
 }
 
 // A sender's mark, and the estimate in its cell; `split` says whether a marked one may be split.
+// A mark beside the estimate, and no Option of it: an unmarked cell has an estimate too, which is tested.
 #[tactic(auto, unfolding(contents::specs::Images::cell_ok))]
 pub fn cell_ok(split: bool, n: u8, sender: u8, marked: bool, e: Estimate) -> bool
     ensures { result ≡ cell_ok today split n sender marked e }
@@ -51,6 +53,7 @@ fn cells_ok<T: StandingTally>(t: &T, split: bool, n: u8) -> bool
     if marks == 0 {
         return t.blanks();
     }
+    // By `fold` and not `all`, as in `blanks`: each cell is looked at.
     (0..limits::MAX_UNITS).fold(
         true,
         |ok, k| -> bool
@@ -63,7 +66,7 @@ fn cells_ok<T: StandingTally>(t: &T, split: bool, n: u8) -> bool
 fn tally_ok<T: StandingTally>(t: &T, split: bool, engine: Engine, n: u8) -> bool
     ensures { result ≡ tally_ok today split engine n (T.tally t.now) }
 {
-    cells_ok(t, split, n) & (u16::count_ones(t.marks()) < tally::quorum(engine, n))
+    cells_ok(t, split, n) & (t.marks().count_ones() < tally::quorum(engine, n))
 }
 
 // In R, or when the second estimate is not blank, there are no CHECK marks.

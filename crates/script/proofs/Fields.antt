@@ -1,5 +1,6 @@
 -- A field of digits has no comma. Assumes nothing.
 use Rattle.std.specs.Prelude.{Option, Some, None}
+use Rattle.std.proofs.lemmas.Bool.{and_parts}
 use Prim.Native.Nat.{ℕ, ◌+◌, ◌≤◌, ◌<◌}
 use mathlib.Core.Path.{◌≡◌, refl}
 use mathlib.Core.Bool.{Bool, true, false, and-false}
@@ -9,7 +10,6 @@ use native.Mathlib.Omega.{arith}
 use borrow.Author.Tests.{leb-true, ne_eqb}
 use lib.Dec.{leb}
 use lib.ListN.{length, drop}
-use Rattle.contents.proofs.Tests.{both_true}
 use Rattle.script.specs.Numbers.{digit_zero, digit_nine, is_digit, all_digits, is_number, read_number}
 use Rattle.script.specs.Parts.{comma, parted}
 use Rattle.script.specs.InnerParts.{before}
@@ -17,12 +17,12 @@ use Rattle.script.specs.Script.{both, one_of, two_of}
 use Rattle.script.proofs.Parting.{parted_there, parted_none, parted_some}
 
 pub digit_range : (b : ℕ) → is_digit b ≡ true → (digit_zero ≤ b) × (b ≤ digit_nine)
-digit_range b h = let t = both_true (leb digit_zero b) (leb b digit_nine) h in (leb-true digit_zero b t.0, leb-true b digit_nine t.1)
+digit_range b h = let t = and_parts (leb digit_zero b) (leb b digit_nine) h in (leb-true digit_zero b t.0, leb-true b digit_nine t.1)
 
 no_comma : (s : List ℕ) → all_digits s ≡ true → length s ≤ before comma s
 no_comma [] h = omega arith
 no_comma (b ∷ s) h =
-    let t = both_true (is_digit b) (all_digits s) h in
+    let t = and_parts (is_digit b) (all_digits s) h in
     let d = digit_range b t.0 in
     let n : b ≡ comma → ⊥ = λ e. omega arith in
     rw (ne_eqb b comma n) (omega (arith, no_comma s t.1))

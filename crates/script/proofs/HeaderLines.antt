@@ -1,5 +1,6 @@
 -- A header that is read is in the ranges. Assumes nothing.
 use Rattle.std.specs.Prelude.{Option, Some, None}
+use Rattle.std.proofs.lemmas.Bool.{and_parts}
 use Prim.Native.Nat.{ℕ, ◌≤◌}
 use mathlib.Core.Path.{◌≡◌, refl}
 use mathlib.Core.Bool.{Bool, true, false, ◌&&◌}
@@ -8,7 +9,6 @@ use native.Mathlib.Omega.{arith}
 use borrow.Author.Tests.{leb-true}
 use lib.Dec.{leb}
 use Rattle.tally.specs.Limits.{min_units, max_units, min_entry, max_entry}
-use Rattle.contents.proofs.Tests.{both_true}
 use Rattle.script.specs.Parts.{comma, parted}
 use Rattle.script.specs.Script.{two_of, engine_field, in_ranges, header_with, with_numbers, header_fields, header_of}
 use Rattle.script.specs.declared.Header.{Header}
@@ -16,9 +16,9 @@ use Rattle.tally.specs.declared.Engine.{Engine}
 
 pub ranges : (n entry : ℕ) → in_ranges n entry ≡ true → (min_units ≤ n) × (n ≤ max_units) × (min_entry ≤ entry) × (entry ≤ max_entry)
 ranges n entry h =
-    let a = both_true (leb min_units n && leb n max_units && leb min_entry entry) (leb entry max_entry) h in
-    let b = both_true (leb min_units n && leb n max_units) (leb min_entry entry) a.0 in
-    let d = both_true (leb min_units n) (leb n max_units) b.0 in
+    let a = and_parts (leb min_units n && leb n max_units && leb min_entry entry) (leb entry max_entry) h in
+    let b = and_parts (leb min_units n && leb n max_units) (leb min_entry entry) a.0 in
+    let d = and_parts (leb min_units n) (leb n max_units) b.0 in
     (leb-true min_units n d.0, leb-true n max_units d.1, leb-true min_entry entry b.1, leb-true entry max_entry a.1)
 
 pub header_range : (line : List ℕ) (h : Header) → header_of line ≡ Some h → in_ranges h.n h.entry ≡ true

@@ -114,3 +114,11 @@ module _ {S A : Type 0} {steps : S → Option A → S → Type 0} {s : S} (u : S
   some_first x (y ∷ ys) h road =
       let next = road.runs.1 x u h in
       (ys, (ap (λ (z : A). z ∷ ys) (sym next.0), record { runs = next.1 }))
+
+-- what is common where the chain gave a mileage first, and b says whether all of the rest have it
+pub common_by : {S : Type 0} {steps : S → Option Estimate → S → Type 0} {s u : S} (t : Tally) (v : ℕ) (b : Bool)
+    → steps s (Some (Mileage v)) u → YieldsList steps (λ x. x) s (gathered t)
+    → ((rest : List Estimate) → YieldsList steps (λ x. x) u rest → b ≡ list_all (has_value v) rest)
+    → common (gathered t) ≡ cond b (Mileage v) Split
+common_by {u = u} t v b h road all =
+    let first = some_first u (Mileage v) (gathered t) h road in rw (first.1.0, common_first v first.0, ← all first.0 first.1.1)

@@ -6,6 +6,7 @@ use Prim.Native.Nat.{ℕ, zero, suc, ◌+◌, ◌≤◌, ◌<◌}
 use native.Mathlib.Decide.{dec_lt}
 use native.Mathlib.Omega.{arith}
 use lib.ListN.{length}
+pub use Rattle.std.specs.List.{AllByRecursion as Each}
 use Rattle.tally.specs.Count.{bump, passing, up_to, count, Both}
 use Rattle.tally.proofs.Never.{never}
 
@@ -35,11 +36,6 @@ module _ {A : Type 0} where
       go ih true false = omega arith
       go ih false true = omega arith
       go ih false false = omega arith
-
-  -- a fact of each element
-  abbrev pub Each : (A → Type 0) → List A → Type 0
-  Each F [] = Unit
-  Each F (x ∷ xs) = F x × Each F xs
 
   pub each_map : {F G : A → Type 0} → ((x : A) → F x → G x) → (xs : List A) → Each F xs → Each G xs
   each_map f [] h = tt

@@ -1,4 +1,5 @@
 -- Tallies: one turn of a search over the senders, counts over unit numbers, and what marking a sender changes. Assumes nothing.
+use Rattle.std.specs.Prelude.{Option, Some, None}
 use Prim.Native.Nat.{ℕ, zero, suc, ◌+◌, ◌-◌, ◌^◌, ◌<◌, ◌≤◌}
 use mathlib.Core.Path.{◌≡◌, refl, sym, ap, ◌∙◌}
 use mathlib.Core.Bool.{Bool, true, false, cond, ◌&&◌, and-true}
@@ -14,6 +15,7 @@ use lib.Seq.{get_or-set_same, get_or-set_other}
 use Rattle.tally.specs.Limits.{senders}
 use Rattle.tally.specs.Count.{bump, passing, count, Both}
 use Rattle.tally.specs.Gathered.{has_value, holders, first_passing}
+use Rattle.tally.specs.InnerGathered.{sent_by}
 use Rattle.tally.specs.Tally.{Typed, OnlyBelow, no_marks, is_marked, blank_cell, estimate_at, held, mark, gathered_from, gathered}
 use Rattle.tally.specs.Quorum.{quorum_of}
 use Rattle.tally.specs.declared.Cell.{Cell}
@@ -126,14 +128,18 @@ typed_mark t s e typed b =
     }
 
 -- one turn of a search over the senders, for the first that passes a test
+abbrev pub first_from : (Estimate → Bool) → Option Estimate → Estimate → Estimate
+first_from P (Some e) later = cond (P e) e later
+first_from P None later = later
+
 pub first_step : (P : Estimate → Bool) (t : Tally) (s : ℕ) → s < senders
-    → first_passing P (rest t s) ≡ cond (is_marked t.marks s && P (estimate_at t s)) (estimate_at t s) (first_passing P (rest t (s + 1)))
+    → first_passing P (rest t s) ≡ first_from P (sent_by t s) (first_passing P (rest t (s + 1)))
 unfolding first_passing gathered_from
 first_step P t s below =
     let e : senders - s ≡ suc (senders - (s + 1)) = omega arith in
     rw e (rw (add-one s) (go (is_marked t.marks s) (gathered_from t (suc s) (senders - suc s))))
   where
     go : (b : Bool) (es : List Estimate) → first_passing P (cond b (estimate_at t s ∷ es) es)
-        ≡ cond (b && P (estimate_at t s)) (estimate_at t s) (first_passing P es)
+        ≡ first_from P (cond b (Some (estimate_at t s)) None) (first_passing P es)
     go true es = refl
     go false es = refl

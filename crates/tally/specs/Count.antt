@@ -6,7 +6,7 @@ abbrev pub bump : Bool → ℕ → ℕ
 bump true k = suc k
 bump false k = k
 
--- how many of xs pass the test P
+-- how many of xs pass the test P: a recursion, where std's count_by is a fold from the left, since each proof by cases computes with it
 abbrev pub passing : {A : Type 0} → (A → Bool) → List A → ℕ
 passing P [] = zero
 passing P (x ∷ xs) = bump (P x) (passing P xs)

@@ -50,10 +50,7 @@ pub enum Refusal {
 pub fn number(refusal: Option<Refusal>) -> u32
     ensures { result ≡ number_of refusal }
 {
-    match refusal {
-        None => 0,
-        Some(refusal) => refusal as u32,
-    }
+    refusal.map_or(0, |refusal| refusal as u32)
 }
 
 // One of the sixteen estimates of a tally.
@@ -74,7 +71,7 @@ pub struct Tally {
 pub fn quorum(engine: Engine, n: u8) -> u32
     ensures { result ≡ quorum_of engine n }
 {
-    let k = n as u32;
+    let k = u32::from(n);
     match engine {
         Engine::B => (k + 2) / 2,
         Engine::R => (2 * k + 3) / 3,
@@ -88,8 +85,8 @@ pub fn majority_size(n: u8) -> u32
     quorum(Engine::R, n) / 2 + 1
 }
 
-// Has this sender a mark? A sender is a number as it comes in a message or in a loop, so that its bound is asked here, and by what follows here alone:
-// the step has it from `Checked`, a message that was found well formed.
+// Has this sender a mark? A sender is a plain number, as a message and a loop have it, so its bound is asked for, here and below. The step has the bound
+// from `Checked`, a message that was found well formed.
 pub fn is_marked(marks: u16, sender: u8) -> bool
     requires { sender < senders }
     ensures { result ≡ is_marked marks sender }
@@ -140,9 +137,8 @@ impl Tally {
         requires { sender < senders }
         ensures { result ≡ mark self sender estimate }
     {
-        let at = sender as usize;
         self.marks = with_mark(self.marks, sender);
-        self.cells[at] = Cell { estimate };
+        self.cells[usize::from(sender)] = Cell { estimate };
         self
     }
 
@@ -150,7 +146,7 @@ impl Tally {
     pub fn count(&self) -> u32
         ensures { result ≡ ones self.now.marks }
     {
-        u16::count_ones(self.marks)
+        self.marks.count_ones()
     }
 
     // What a marked sender sent.
@@ -158,11 +154,7 @@ impl Tally {
         requires { sender < senders }
         ensures { result ≡ sent_by self.now sender }
     {
-        if is_marked(self.marks, sender) {
-            Some(self.cells[sender as usize].estimate)
-        } else {
-            None
-        }
+        is_marked(self.marks, sender).then_some(self.cells[usize::from(sender)].estimate)
     }
 
     // Is a sender marked with the mileage v? Both are looked at, with no branch between.
@@ -170,7 +162,7 @@ impl Tally {
         requires { sender < senders }
         ensures { result ≡ (is_marked self.now.marks sender && has_value v (estimate_at self.now sender)) }
     {
-        is_marked(self.marks, sender) & has_value(self.cells[sender as usize].estimate, v)
+        is_marked(self.marks, sender) & has_value(self.cells[usize::from(sender)].estimate, v)
     }
 
     // How many of the marked hold the mileage v.
@@ -228,11 +220,8 @@ fn leader_from(t: &Tally, need: u32, sender: u8) -> Estimate
     if sender == limits::MAX_UNITS {
         return Estimate::Blank;
     }
-    let at = sender as usize;
-    let c = t.cells[at];
-    let e = c.estimate;
-    if is_marked(t.marks, sender) & t.leads(need, e) {
-        return e;
+    match t.sent_by(sender) {
+        Some(e) if t.leads(need, e) => e,
+        _ => leader_from(t, need, sender + 1),
     }
-    leader_from(t, need, sender + 1)
 }

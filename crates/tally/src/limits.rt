@@ -6,7 +6,7 @@ pub const MIN_UNITS: u8 = 3;
 
 pub const MAX_UNITS: u8 = 16;
 
-// A tally has a place for each unit number.
+// A tally has a place for each unit number; by `as`, since usize::from is no constant's.
 pub const SENDERS: usize = MAX_UNITS as usize;
 
 pub const MIN_ENTRY: u16 = 1;

@@ -13,7 +13,7 @@ unfolding header_line
 put_header-requires c =
     let x = c.args in
     let most = played_length today x.h x.rest.now c.requires.h_value c.requires.rest_len_bound in
-    rw c.letter_of.ensures
+    rw (c.letter_of.ensures, c.from.ensures, c.from-2.ensures)
     (room_first x.out.now (header_line x.h) (rest_text today (start x.h) 0 (events_in x.h.n x.rest.now)) (omega (arith, most, c.requires.room)))
 
 pub put_events-requires-clause-room : goal.put_events-requires-clause-room
@@ -21,8 +21,8 @@ unfolding header_line
 put_events-requires-clause-room c =
     let x = c.args in
     let most = played_length today x.h x.rest.now c.requires.h_value c.requires.rest_len_bound in
-    room_next _ (rw c.letter_of.ensures at c.put_header.ensures) (omega (arith, most, c.requires.room))
+    room_next _ (rw (c.letter_of.ensures, c.from.ensures, c.from-2.ensures) at c.put_header.ensures) (omega (arith, most, c.requires.room))
 
 pub returns : goal.returns
 unfolding header_line
-returns c = then (rw c.letter_of.ensures at c.put_header.ensures) c.put_events.ensures
+returns c = then (rw (c.letter_of.ensures, c.from.ensures, c.from-2.ensures) at c.put_header.ensures) c.put_events.ensures

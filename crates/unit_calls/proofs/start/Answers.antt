@@ -1,5 +1,7 @@
 -- A unit's start: settings out of range are refused; else the log and the image stored are those of the fresh unit. Assumes nothing.
-use Rattle.std.proofs.Common.{sym, ◌∙◌}
+use Rattle.std.proofs.Common.{sym, ap, ◌∙◌, arith}
+use Rattle.std.proofs.lemmas.Grind.{common_steps}
+use Rattle.std.specs.Result.{result_ok}
 use Rattle.tally.specs.Limits.{today}
 use Rattle.formats.specs.Messages.{cleared}
 use Rattle.consensus.specs.Conditions.{first_refusal}
@@ -13,19 +15,16 @@ pub returns-then-wrong_lengths : goal.returns-then-wrong_lengths
 unfolding start_call start_call_conditions first_refusal cleared
 returns-then-wrong_lengths c = rw (sym c.wrong_lengths.ensures ∙ c.if-wrong_lengths.true)
 
-pub returns-in_default : goal.returns-in_default
+pub returns-in_err-settings : goal.returns-in_err-settings
 unfolding start_call start_call_conditions first_refusal cleared
-returns-in_default c =
-    rw (
-      sym c.wrong_lengths.ensures ∙ c.if-wrong_lengths.false,
-      settings_bad _ _ _ _ (sym c.settings_from.ensures ∙ c.in_default.is),
-    )
+returns-in_err-settings c = grind (arith, common_steps, settings_bad)
 
 pub returns : goal.returns
 unfolding start_call start_call_conditions first_refusal fresh at_log
 returns c =
     let right = sym c.wrong_lengths.ensures ∙ c.if-wrong_lengths.false in
-    let good = settings_good c.args.engine c.args.n c.args.unit c.args.entry c.in-Some.settings (sym c.settings_from.ensures ∙ c.in-Some.is) in
+    let read = sym c.settings_from.ensures ∙ c.ok_or.ensures.ok_part ∙ ap result_ok c.in_ok-settings.was in
+    let good = settings_good c.args.engine c.args.n c.args.unit c.args.entry c.in_ok-settings.settings read in
     rw (
       right,
       good.0,

@@ -31,8 +31,8 @@ put_line-requires c =
     rw (c.listing_line.ensures, line_turned _ t) (turn_room today inv.left c.requires.room c.in-Some.event _ c.in-Some.ensures.steps)
 
 -- what is sent has a place
-pub bounds-b-place : goal.bounds-b-place
-bounds-b-place c =
+pub bounds-b-b : goal.bounds-b-b
+bounds-b-b c =
     let t =
     turned today c.loop-event.b _ _ _ _ _ c.loop-event.invariant.sized.kept c.event_unit-u.ensures c.event_place-k.ensures c.turn-answer.ensures
     c.outcome_of-outcome.ensures in

@@ -6,9 +6,9 @@ use Rattle.consensus.specs.InnerMethods.{deliver_read}
 use Rattle.consensus.specs.Methods.{deliver, deliver_conditions, unless}
 use Rattle.consensus.proofs.Unit.take.Goals as goal
 
-pub returns-in_default : goal.returns-in_default
+pub returns-in_err-checked : goal.returns-in_err-checked
 unfolding deliver deliver_conditions unless first_refusal deliver_read
-returns-in_default c = grind (arith, common_steps)
+returns-in_err-checked c = grind (arith, common_steps)
 
 pub returns-then-not-is_up : goal.returns-then-not-is_up
 unfolding deliver deliver_conditions unless first_refusal deliver_read

@@ -2,22 +2,26 @@ use Rattle.std.proofs.Common.{rules, ◌≡◌, false}
 use Rattle.std.proofs.lemmas.Iterator.Search.{all_from_yields_List}
 use Rattle.tally.specs.Gathered.{any_mileage, has_value, common}
 use Rattle.tally.specs.Tally.{gathered}
-use Rattle.tally.proofs.Chains.{chain_gathered, common_first, common_other, none_first, some_first}
+use Rattle.tally.proofs.Chains.{chain_gathered, common_by, common_other, none_first, some_first}
 use Rattle.tally.proofs.Tally.common.Goals as goal
 
 pub returns-in-Some-Mileage : goal.returns-in-Some-Mileage
 returns-in-Some-Mileage c =
-    let first = some_first c.next.new.self _ (gathered c.args.self.now) (rw (c.in-Some-Mileage.is, c.in-Some-Mileage.field-0-is) at c.next.ensures.steps)
-    (chain_gathered c.args.self.now c.filter_map-marked.ensures.source c.filter_map-marked.ensures.closure (λ x r q k. search rules)) in
-    let same = all_from_yields_List (has_value c.in-Some-Mileage.v) _ _ c.all.result c.all.ensures.ran first.1.1 (λ x b q k. search rules) in
-    rw (first.1.0, common_first c.in-Some-Mileage.v first.0, ← same, c.if-all.true)
+    rw (
+      common_by c.args.self.now c.in-Some-Mileage.v c.all.result (rw (c.in-Some-Mileage.is, c.in-Some-Mileage.field-0-is) at c.next.ensures.steps)
+          (chain_gathered c.args.self.now c.filter_map-marked.ensures.source c.filter_map-marked.ensures.closure (λ x r q k. search rules))
+          (λ rest road. all_from_yields_List (has_value c.in-Some-Mileage.v) _ _ c.all.result c.all.ensures.ran road (λ x b q k. search rules)),
+      c.if-all.true,
+    )
 
 pub returns-in_default : goal.returns-in_default
 returns-in_default c =
-    let first = some_first c.next.new.self _ (gathered c.args.self.now) (rw (c.in-Some-Mileage.is, c.in-Some-Mileage.field-0-is) at c.next.ensures.steps)
-    (chain_gathered c.args.self.now c.filter_map-marked.ensures.source c.filter_map-marked.ensures.closure (λ x r q k. search rules)) in
-    let same = all_from_yields_List (has_value c.in-Some-Mileage.v) _ _ c.all.result c.all.ensures.ran first.1.1 (λ x b q k. search rules) in
-    rw (first.1.0, common_first c.in-Some-Mileage.v first.0, ← same, c.if-all.false)
+    rw (
+      common_by c.args.self.now c.in-Some-Mileage.v c.all.result (rw (c.in-Some-Mileage.is, c.in-Some-Mileage.field-0-is) at c.next.ensures.steps)
+          (chain_gathered c.args.self.now c.filter_map-marked.ensures.source c.filter_map-marked.ensures.closure (λ x r q k. search rules))
+          (λ rest road. all_from_yields_List (has_value c.in-Some-Mileage.v) _ _ c.all.result c.all.ensures.ran road (λ x b q k. search rules)),
+      c.if-all.false,
+    )
 
 pub returns-in_default-2 : goal.returns-in_default-2
 returns-in_default-2 c =
