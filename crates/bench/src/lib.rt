@@ -30,7 +30,7 @@ const END_WIDTH: usize = 14;
 // No listing is longer: no line prints more than a malformed line for each of its bytes.
 pub const MAX_LISTING: usize = HEADER_WIDTH + MALFORMED_WIDTH * limits::SCRIPT_SIZE + END_WIDTH;
 
-// Room for any listing is asked of each function that puts one: it is there at the beginning alone, so it is no field of Listing.
+// ---- what is printed. Room for any listing is asked of each function: it is there at the beginning alone, so it is no field of Listing.
 
 // What a malformed header prints.
 fn put_malformed(out: &mut Listing)

@@ -59,7 +59,7 @@ pub fn deliver_asks(
     Ok(card_call(engine, n, unit, u32::from(m.entry), act))
 }
 
-// ---- what is told: unit_calls has a put_message of its own, for a buffer that was cleared before anything was read; its definition is another one
+// ---- what is told: unit_calls has a put_message of its own, since its buffer is cleared before anything is read, and an empty message leaves it as it is
 #[tactic(auto, unfolding(cards::specs::InnerSteps::put_message))]
 pub fn put_message(m: Message, out: &mut [u8])
     ensures { out.new ≡ put_message today m out.old }

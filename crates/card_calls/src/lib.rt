@@ -8,8 +8,7 @@ ghost use Rattle.std.specs.Result.{result_err};
 ghost use Rattle.tally.specs.Limits.{today};
 ghost use Rattle.contents.specs.Logs.{log_ok};
 ghost use Rattle.cards.specs.Calls.{wrong_count, names_no_row};
-ghost use Rattle.cards.specs.InnerSteps.{settings_read, own_log, tells, row_answer, row_stored, takes, with_log, act_of, step_of};
-ghost use Rattle.cards.specs.InnerSteps.{front, card_told, card_rows};
+ghost use Rattle.cards.specs.InnerSteps.{settings_read, own_log, tells, row_answer, row_stored, takes, with_log, act_of, step_of, front, card_told, card_rows};
 
 use cards::{Act, CardCall, CardRow, Told, UnitStep};
 use consensus::{Answer, Unit, step};

@@ -1,15 +1,14 @@
 -- What the calls do on a card whose row holds a well-formed unit. Assumes nothing.
 use Rattle.std.specs.Prelude.{None}
-use Rattle.std.proofs.lemmas.Bool.{and_parts}
 use Prim.Native.Nat.{ℕ, ◌-◌, ◌≤◌}
 use mathlib.Core.Path.{◌≡◌, refl, sym, ap, subst, ◌∙◌}
 use mathlib.Core.Bool.{Bool, true, false}
 use mathlib.Core.List.{List}
 use native.Mathlib.Omega.{arith}
-use lib.Dec.{eqb, leb}
+use lib.Dec.{eqb}
 use lib.ListN.{length, length-set}
 use lib.Seq.{get_or-set_same}
-use borrow.Author.Tests.{eqb-true, eqb-false, leb-true, not-false}
+use borrow.Author.Tests.{eqb-true, eqb-false, not-false}
 use Rattle.tally.specs.Limits.{Limits, Sane}
 use Rattle.tally.specs.Refusal.{number_of}
 use Rattle.contents.specs.Logs.{settings_ok}
@@ -38,6 +37,7 @@ use Rattle.cards.specs.declared.CardRow.{CardRow}
 use Rattle.cards.specs.declared.LogFields.{LogFields}
 use Rattle.cards.proofs.Calls.{start_on_row, key_on_on_row, propose_on_row, deliver_on_row}
 use Rattle.cards.proofs.Encoded.{unit_is}
+use Rattle.cards.proofs.Steps as steps
 use Rattle.cards.proofs.Rows.{row_back}
 use Rattle.agreement.specs.Worlds.{Setup, settings_of}
 use Rattle.card_history.specs.Cards.{CardWorld, Call, starts, keys_on, proposes, delivers, lent_rows, card_of, run_call}
@@ -47,10 +47,7 @@ abbrev pub Names : List CardRow → ℕ → Type 0
 Names card k = names_no_row (length card) k ≡ false
 
 pub named : (card : List CardRow) (k : ℕ) → Names card k → (1 ≤ k) × (k ≤ length card)
-unfolding names_no_row
-named card k h =
-    let t = and_parts (leb 1 k) (leb k (length card)) (not-false _ h) in
-    (leb-true _ _ t.0, leb-true _ _ t.1)
+named card k h = steps.named (length card) k h
 
 -- ---- any call
 

@@ -10,7 +10,7 @@ ghost use Rattle.formats.specs.Images.{tally_of};
 ghost use Rattle.formats.specs.InnerImages.{fit_state};
 ghost use Rattle.formats.specs.Logs.{log_format};
 ghost use Rattle.cards.specs.Rows.{numbers_of, marks_fit, row_tally, row_image, log_fields_of, tally_fields_of};
-ghost use Rattle.cards.specs.InnerSteps.{log_read_of, unmarked_row, tally_over, row_over};
+ghost use Rattle.cards.specs.InnerSteps.{log_read_of, unmarked_row, tally_fields_over, row_over};
 
 use cards::{CardRow, LogFields, TallyFields};
 use consensus::Unit;
@@ -166,7 +166,7 @@ pub fn unmarked(l: Log) -> CardRow
 #[tactic(auto, unfolding(tally::specs::Tally::no_marks))]
 #[inline(always)]
 fn put_changed(t: &Tally, same: bool, f: &mut TallyFields)
-    ensures { f.new ≡ tally_over same t.now f.old }
+    ensures { f.new ≡ tally_fields_over same t.now f.old }
 {
     if same & (u32::from(t.marks) == f.marks) {
         return;

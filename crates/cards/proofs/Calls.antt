@@ -1,6 +1,6 @@
 -- The laws of the four calls on a card, over their own definitions. Assumes nothing.
 use Rattle.std.specs.Prelude.{Some}
-use Rattle.std.proofs.lemmas.Bool.{and_parts}
+use Rattle.std.proofs.lemmas.Bool.{and_parts, or_parts}
 use Prim.Native.Nat.{ℕ, zero, suc, ◌-◌, ◌≤◌}
 use mathlib.Core.Path.{◌≡◌, refl, sym, ap, ◌∙◌}
 use mathlib.Core.Bool.{Bool, true, false, cond, ◌||◌}
@@ -14,7 +14,6 @@ use Rattle.tally.specs.Limits.{Limits, blank_code}
 use Rattle.tally.specs.Refusal.{number_of}
 use Rattle.tally.proofs.Refusals.{refusal_number}
 use Rattle.consensus.proofs.Laws.{none_first}
-use Rattle.std.proofs.lemmas.Bool.{or_parts}
 use Rattle.contents.specs.Images.{fits}
 use Rattle.contents.specs.declared.Message.{Message}
 use Rattle.formats.specs.Formats.{from_numbers}

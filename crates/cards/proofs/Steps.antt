@@ -36,9 +36,9 @@ use Rattle.consensus.specs.Units.{unit_log, up_unit, at_log, down_unit}
 use Rattle.consensus.specs.declared.Answer.{Answer}
 use Rattle.consensus.specs.declared.Unit as U
 use Rattle.consensus.proofs.Answers.{plain_proposed, plain_received}
-use Rattle.cards.specs.Calls.{wrong_count, names_no_row, bad_beside, settings_of_row, bad_row_log, other_row, bad_row_image}
+use Rattle.cards.specs.Calls.{names_no_row, bad_beside, settings_of_row, bad_row_log, other_row, bad_row_image}
 use Rattle.cards.specs.InnerSteps.{log_read_of, beside_of, own_log, unmarked_row, row_fits, unit_conditions, unit_answer, takes, step_conditions}
-use Rattle.cards.specs.InnerSteps.{step_answer, tells, told, row_answer, row_answered, unless_row, act_of, with_log, front_conditions}
+use Rattle.cards.specs.InnerSteps.{step_answer, tells, told, row_answer, row_answered, unless_row, act_of, with_log}
 use Rattle.cards.specs.InnerSteps.{front, card_told, card_rows, step_of}
 use Rattle.cards.specs.Rows.{numbers_of, marks_fit, row_tally, image_with, row_log, row_image, row_unit, row_of, no_row}
 use Rattle.cards.specs.declared.Act.{Act}
@@ -59,17 +59,6 @@ row_estimate marks es k h = ap (λ (c : Cell). c.estimate) (get_or-map cell_of e
 pub named : (count k : ℕ) → names_no_row count k ≡ false → (1 ≤ k) × (k ≤ count)
 unfolding names_no_row
 named count k e = let t = and_parts (leb 1 k) (leb k count) (not-false _ e) in (leb-true _ _ t.0, leb-true _ _ t.1)
-
--- a call that is not refused before any row is read names one
-pub front_row : (c : CardCall) (count : ℕ) → number_of (front (Ok c) count) ≡ 0 → (1 ≤ c.row) × (c.row ≤ count)
-unfolding front front_conditions first_refusal
-front_row c count h = go (wrong_count count) (names_no_row count c.row) refl h
-  where
-    go : (a d : Bool) → names_no_row count c.row ≡ d → number_of (cond a (Some Refusal.Length) (cond d (Some Refusal.Row) None)) ≡ 0
-        → (1 ≤ c.row) × (c.row ≤ count)
-    go true d e z = absurd (omega (arith, z))
-    go false true e z = absurd (omega (arith, z))
-    go false false e z = named count c.row e
 
 -- a call without a row tells why, and leaves the rows
 pub told_none : (x : Result CardCall Refusal) (rows : List CardRow) (why : Refusal) → front x (length rows) ≡ Some why
@@ -130,28 +119,21 @@ module _ (r : CardRow) (g : Log) where
           let same : log_of x (numbers_of r.image) ≡ front = cc in
           rw (← same) (marks (marks_fit r.checks) (marks_fit r.seconds) refl refl ok)
 
-  pub row_unread : (k : Refusal) → log_read_of (from_numbers (log_format today) (numbers_of r.image)) ≡ Err k
-      → fit_state (row_image today r) g ≡ None
-  unfolding row_image
-  row_unread k e = image_unread (engine_of r.image.engine) k (marks_fit r.checks && marks_fit r.seconds) e
-
-  pub row_tested : (front : Log) → log_read_of (from_numbers (log_format today) (numbers_of r.image)) ≡ Ok front
-      → fit_state (row_image today r) g ≡ cond (row_fits today r front g) (Some front.state) None
-  unfolding row_image
-  row_tested front e = image_tested (engine_of r.image.engine) front e
-
   -- so its state is that of its first numbers, where these are a log and all of it fits
   abbrev pub state_by : Option Log → Option State
   state_by (Some front) = cond (row_fits today r front g) (Some front.state) None
   state_by None = None
 
   pub row_state : fit_state (row_image today r) g ≡ state_by (result_ok (log_read_of (from_numbers (log_format today) (numbers_of r.image))))
-  row_state = go (log_read_of (from_numbers (log_format today) (numbers_of r.image))) refl
+  unfolding row_image
+  row_state = go (front_read o) refl
     where
-      go : (x : Result Log Refusal) → log_read_of (from_numbers (log_format today) (numbers_of r.image)) ≡ x
-          → fit_state (row_image today r) g ≡ state_by (result_ok x)
-      go (Ok front) e = row_tested front e
-      go (Err k) e = row_unread k e
+      o : Option Engine
+      o = engine_of r.image.engine
+
+      go : (x : Result Log Refusal) → front_read o ≡ x → tests o (marks_fit r.checks && marks_fit r.seconds) ≡ state_by (result_ok x)
+      go (Ok front) e = image_tested o front e
+      go (Err k) e = image_unread o k (marks_fit r.checks && marks_fit r.seconds) e
 
   -- ---- the unit of a row that fits
 

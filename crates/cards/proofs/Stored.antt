@@ -34,7 +34,7 @@ use Rattle.calls.specs.Calls.{unread}
 use Rattle.calls.proofs.Held.{fit_well_formed}
 use Rattle.calls.proofs.Stored.{all_checks, all_seconds, deliver_stays}
 use Rattle.cards.specs.Calls.{bad_beside, settings_of_row, bad_row_log, other_row}
-use Rattle.cards.specs.InnerSteps.{beside_of, own_log, takes, tally_over, row_over, row_stored, with_log}
+use Rattle.cards.specs.InnerSteps.{beside_of, own_log, takes, tally_fields_over, row_over, row_stored, with_log}
 use Rattle.cards.specs.Rows.{row_tally, tally_fields_of, row_log, row_image, row_of}
 use Rattle.cards.specs.declared.CardCall.{CardCall}
 use Rattle.cards.specs.declared.CardRow.{CardRow}
@@ -123,7 +123,7 @@ module _ (r : CardRow) (g : Log) (checks : length (row_tally r.checks).cells ≡
 
   -- a tally of the marks that stand there, in its round, is the one that stands there
   tally_there : (f : TallyFields) (a b : Tally) (same : Bool) → a ≡ row_tally f → as_marked a ≡ a → as_marked b ≡ b
-      → (same ≡ true → b.marks ≡ a.marks → (s : ℕ) → held b s ≡ held a s) → tally_over same b f ≡ tally_fields_of b
+      → (same ≡ true → b.marks ≡ a.marks → (s : ℕ) → held b s ≡ held a s) → tally_fields_over same b f ≡ tally_fields_of b
   tally_there f a b same e all_a all_b kept = go same (eqb b.marks f.marks) refl refl
     where
       go : (t m : Bool) → same ≡ t → eqb b.marks f.marks ≡ m

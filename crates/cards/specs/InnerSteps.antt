@@ -74,8 +74,8 @@ row_fits l r front g =
     && fits i g
 
 -- what is stored of a tally: nothing where the round is the same and the row has its marks already, and no estimates where it has no marks
-abbrev pub tally_over : Bool → Tally → TallyFields → TallyFields
-tally_over same t f = cond (same && eqb t.marks f.marks) f (cond (eqb t.marks 0) (tally_fields_of no_marks) (tally_fields_of t))
+abbrev pub tally_fields_over : Bool → Tally → TallyFields → TallyFields
+tally_fields_over same t f = cond (same && eqb t.marks f.marks) f (cond (eqb t.marks 0) (tally_fields_of no_marks) (tally_fields_of t))
 
 -- a unit's row, stored over an older one
 abbrev pub row_over : U.Unit → CardRow → CardRow
@@ -84,8 +84,8 @@ row_over u r =
     record {
       log = log_fields_of (unit_log u);
       image = log_fields_of (image_log (unit_image u));
-      checks = tally_over same u.checks r.checks;
-      seconds = tally_over same u.seconds r.seconds;
+      checks = tally_fields_over same u.checks r.checks;
+      seconds = tally_fields_over same u.seconds r.seconds;
     }
 
 -- ---- the step of a row
@@ -135,7 +135,7 @@ row_answer r t = record { row = r; told = t }
 abbrev pub row_answered : CardRow → Answer → RowAnswer
 row_answered r a = cond (eqb (number_of a.refusal) 0) (row_answer (row_of a.unit) (told a)) (row_answer r (tells a.refusal))
 
--- as it is stored
+-- an accepted answer, stored over the row
 abbrev pub row_stored : CardRow → Answer → RowAnswer
 row_stored r a = cond (eqb (number_of a.refusal) 0) (row_answer (row_over a.unit r) (told a)) (row_answer r (tells a.refusal))
 

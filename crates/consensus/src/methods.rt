@@ -57,7 +57,7 @@ impl Unit {
         }
     }
 
-    // A refusal changes nothing, sends nothing and decides nothing. An Option, since the refusal of old had a None: a narrower type would ask more of callers.
+    // A refusal changes nothing, sends nothing and decides nothing. It takes an Option: a narrower type would ask more of callers.
     pub fn refused(self, refusal: Option<Refusal>) -> Answer
         ensures { result ≡ refuses self refusal }
     {

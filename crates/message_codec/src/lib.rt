@@ -7,8 +7,7 @@ ghost use Rattle.std.specs.Result.{result_err};
 ghost use Rattle.tally.specs.Limits.{today};
 ghost use Rattle.tally.specs.Refusal.{number_of};
 ghost use Rattle.formats.specs.Formats.{to_bytes, wrote};
-ghost use Rattle.formats.specs.Messages.{message_of, message_format, message_reading, cleared};
-ghost use Rattle.formats.specs.Messages.{read_message, write_message};
+ghost use Rattle.formats.specs.Messages.{message_of, message_format, message_reading, cleared, read_message, write_message};
 ghost use Rattle.formats.specs.InnerMessages.{message_numbers_in};
 ghost use Rattle.formats.specs.InnerFormats.{stored};
 

@@ -2,8 +2,7 @@
 use Prim.Native.Nat.{ℕ, zero, suc, ◌+◌, ◌*◌, ◌/◌, ◌%◌, ◌^◌, ◌<◌}
 use mathlib.Core.Path.{◌≡◌, sym, ap, ap₂, ◌∙◌}
 use mathlib.Core.Bool.{true, false}
-use native.Mathlib.Nat.{mod-lt, add-zero, one-mul, zero-mul, suc-mul, zero-add}
-use native.Mathlib.Nat.{mod-one, mod-eq_of_lt}
+use native.Mathlib.Nat.{mod-lt, add-zero, one-mul, zero-mul, suc-mul, zero-add, mod-one, mod-eq_of_lt}
 use native.Mathlib.Numerals.{add-one, one-add}
 use native.Mathlib.Omega.{arith}
 use borrow.Author.Tests.{eqb-false, eq-eqb}
