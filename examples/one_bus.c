@@ -1,8 +1,10 @@
 /*
  * Two dashes and a brake box settle the mileage of one service on one bus.
  *
- * Both dashes propose, another mileage each; a message is lost, and the brake box's key goes off after its log write and
- * before its message leaves. The first round splits, the second decides, and all three report the same mileage.
+ * Both dashes propose, another mileage each, while the brake box's key is off, and the first round splits. In the second
+ * the brake box's key goes off after its log write and before its CHECK leaves: one CHECK is on the bus, of the two that
+ * are needed. After its key-on dash 1 proposes again. That FIRST makes the brake box send the CHECK that its log holds, and
+ * all three report the same mileage. Dash 2 never gets a FIRST of dash 1.
  *
  * From the repository's root, after `make all`:
  *   cc -std=c99 -Iinclude examples/one_bus.c target/staticlib/libmileage.a -o target/one_bus && target/one_bus
@@ -178,17 +180,21 @@ int main(void)
     for (uint32_t number = 0; number < UNITS; number++)
         start(number);
 
+    key_off(&units[BRAKE_BOX]);
     propose(&units[DASH_1], 412077);
     propose(&units[DASH_2], 412080);
+    carry(DASH_2);    /* so dash 2 goes by its own FIRST */
+    carry_the_rest(); /* the CHECKs differ, so both dashes send split, and go on to round 1 */
 
-    units[BRAKE_BOX].cut = true;
-    carry(DASH_2);  /* so dash 2 goes by its own FIRST */
-    carry(NOBODY);  /* dash 2's FIRST */
-    carry(NOBODY);  /* dash 1's CHECK; the brake box is still off, and its own CHECK was never sent */
     key_on(&units[BRAKE_BOX]);
-    carry_the_rest(); /* the CHECKs differ, so both dashes send split, and all go on to round 1 */
-
+    units[BRAKE_BOX].cut = true;
     propose(&units[DASH_1], 412077); /* some time later, without a decision: again */
+    carry(DASH_2);    /* the brake box logs its estimate, and its CHECK is never sent */
+    carry_the_rest(); /* dash 1's CHECK alone */
+
+    key_on(&units[BRAKE_BOX]);
+    propose(&units[DASH_1], 412077); /* some time later, without a decision: again */
+    carry(DASH_2);    /* dash 1 sends its CHECK again, the brake box the one that never left */
     carry_the_rest();
 
     for (int number = 0; number < UNITS; number++)

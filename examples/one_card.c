@@ -262,8 +262,8 @@ int main(void)
     units[BRAKE_BOX].cut = true;
     carry_to(4); /* the FIRST of entry 2: the brake box logs it, and its CHECK never leaves; then two CHECKs of entry 1 */
     key_on(&units[BRAKE_BOX]);
-    carry_to(8);
-    units[DASH_2].card[0].seconds.marks ^= UINT32_C(1) << 20; /* a bit that falls over in working memory */
+    carry_to(12); /* the third CHECK of entry 1 makes both dashes send their SECONDs again */
+    units[DASH_2].card[1].seconds.marks ^= UINT32_C(1) << 20; /* a bit that falls over in working memory */
     carry_to(PLACES);
 
     try_again(&units[DASH_2]); /* the others are a round ahead, and tell it so */

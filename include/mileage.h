@@ -29,10 +29,10 @@ extern "C" {
 
 /*
  * The version of the interface, as this header has it; mileage_version gives the archive's. It is raised with every change
- * of bytes, sizes, numbers or signatures. Firmware compares the two before its first call of anything else: where they
- * differ, header and archive are not of one core, and nothing said here holds of the archive.
+ * of bytes, sizes, numbers, signatures or what a call answers. Firmware compares the two before its first call of anything
+ * else: where they differ, header and archive are not of one core, and nothing said here holds of the archive.
  */
-#define MILEAGE_VERSION UINT32_C(2)
+#define MILEAGE_VERSION UINT32_C(3)
 
 uint32_t mileage_version(void);
 
@@ -94,12 +94,17 @@ uint32_t mileage_version(void);
  *   to permanent memory, never that memory itself (a call writes in pieces); as image the one that the last call on this
  *   entry left. Calls on one entry come one after the other.
  * - To propose a mileage, or to try again after some time without a decision: mileage_propose, as often as you like, with
- *   any mileage in range. The log stays as it is.
+ *   any mileage in range. The log stays as it is. Each unit that gets this FIRST and is not past its round sends its vote,
+ *   for the first time or again, so that one whose key went off before its message left is heard after all: in R a SECOND,
+ *   in B a CHECK, and in B each CHECK makes a unit that has set its second estimate send its SECOND again. So one FIRST may
+ *   bring n votes, in B these n times n SECONDs, and each SECOND that comes late a SKIP from each unit that went on. A
+ *   SECOND or SKIP of a unit's own round is not answered.
  * - For each message from the bus, its own messages to everyone too, and also after its decision: mileage_deliver. If the
  *   log has changed (its 20 bytes differ from those before the call), the whole log goes to permanent memory, and only
- *   then does the message in the output buffer leave. Writing it every time is right too. If it cannot be written, send
- *   nothing, and go on with mileage_key_on. A message of an entry that the unit has not started is dropped, which is as if
- *   it was lost, or the entry is started first.
+ *   then does the message in the output buffer leave. Writing it every time is right too. The next call on this entry waits
+ *   until the log is there: a vote that goes out again is the one in the log, and leaves the log as it is. If the log
+ *   cannot be written, send nothing, and go on with mileage_key_on. A message of an entry that the unit has not started is
+ *   dropped, which is as if it was lost, or the entry is started first.
  * - Every log, that of a start too, is written as one piece: after a key-off the old log or the new one stands, never a mix.
  * - A message of 18 zero bytes in the output buffer is no message. Any other goes to all units, its sender too, or, if
  *   its kind, byte 0, is 'K', to the one unit that its byte 4 names; the others refuse it with 5. A message may be lost,
@@ -181,8 +186,8 @@ typedef char mileage_row_has_200_bytes[sizeof(mileage_row) == 200 ? 1 : -1];
  * - For each message from the bus, its own messages to everyone too, and also after its decision: mileage_card_deliver. If
  *   the log of the row of the message's entry has changed (mileage_read_message tells the entry), these eight numbers go to
  *   permanent memory, as one piece, and only then does the message in the output buffer leave. Writing them every time is
- *   right too. If they cannot be written, send nothing: copy the log from permanent memory to the row, and go on with
- *   mileage_card_key_on. A decision is of the message's entry.
+ *   right too. The next call on this row waits until they are there. If they cannot be written, send nothing: copy the log
+ *   from permanent memory to the row, and go on with mileage_card_key_on. A decision is of the message's entry.
  * - Permanent memory may keep a row's log as these eight numbers, or as the 20 bytes that mileage_write_log makes of them:
  *   its fields are the same eight numbers in the same order, and mileage_read_log gives them back.
  * - After a refusal nothing is to be written or sent, and the card goes on as it is. 12 for a message: its entry has no

@@ -310,6 +310,7 @@ int main(int argc, char **argv)
         check_fifty(base);
     check_example_on_cards();
     check_histories(500 / every + 20);
-    printf("card: %lu calls on cards, all as wanted; %lu decisions in histories\n", card_calls, decisions);
+    printf("card: %lu calls on cards, all as wanted; in histories %lu decisions and %lu votes sent again\n", card_calls, decisions,
+           votes_again);
     return 0;
 }

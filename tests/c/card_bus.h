@@ -18,7 +18,7 @@ static struct bike {
     size_t sent_count;
     uint32_t decided[MOST_ROWS][MOST_UNITS];
 } bike;
-static unsigned long decisions;
+static unsigned long decisions, votes_again;
 
 /* A row's log and a unit's are each other's, by the calls of fields: so the row's may be kept as 20 bytes. */
 static inline void must_be_the_log(const uint8_t *log, const mileage_contents *contents)
@@ -31,6 +31,20 @@ static inline void must_be_the_log(const uint8_t *log, const mileage_contents *c
         fail("a card beside the unit calls", "read_log does not give the row's eight numbers");
     if (mileage_write_log(given, MILEAGE_LOG_FIELDS, written, sizeof written) != MILEAGE_ACCEPTED || memcmp(written, log, sizeof written) != 0)
         fail("a card beside the unit calls", "write_log does not make the log of the row's eight numbers");
+}
+
+/* A vote that goes out and leaves log and image as they were was sent again: it is the one in the log. */
+static inline void check_vote_again(const struct call *before, const struct call *done)
+{
+    const uint8_t *log = done->bytes[LOG], *out = done->bytes[OUT];
+    size_t estimate = out[0] == 'S' && log[0] == 'B' ? 16 : 12;
+
+    if (done->which != DELIVER || (out[0] != 'C' && out[0] != 'S') || memcmp(log, before->bytes[LOG], MILEAGE_LOG_LENGTH) != 0
+        || memcmp(done->bytes[IMAGE], before->bytes[IMAGE], MILEAGE_IMAGE_LENGTH) != 0)
+        return;
+    if (memcmp(out + 8, log + 6, 2) != 0 || memcmp(out + 10, log + estimate, 4) != 0)
+        fail("a vote sent again", "not the one in the log");
+    votes_again++;
 }
 
 /* A call of a unit on one entry, and the same on its card. Gives what is there after the unit's. */
@@ -57,6 +71,7 @@ static inline struct call both(enum which which, uint32_t u, uint32_t k, uint32_
     memcpy(bike.logs[u][k - 1], done.bytes[LOG], MILEAGE_LOG_LENGTH);
     memcpy(bike.images[u][k - 1], done.bytes[IMAGE], MILEAGE_IMAGE_LENGTH);
     must_be_the_log(done.bytes[LOG], &wanted.rows[k - 1].log);
+    check_vote_again(&unit, &done);
     return done;
 }
 
@@ -155,60 +170,83 @@ static inline void check_history(const uint32_t *entries, size_t entry_count, si
 
 static inline void check_histories(uint32_t histories)
 {
-    unsigned long before = decisions;
+    unsigned long decided = decisions, again = votes_again;
 
     for (uint32_t i = 0; i < histories; i++) {
         check_history(VALUES(1), 1);
         check_history(VALUES(1, 2), 2);
         check_history(VALUES(1, 33, 64), 64);
     }
-    if (decisions < before + histories)
+    if (decisions < decided + histories)
         fail("histories", "hardly any decision");
+    if (votes_again < again + histories)
+        fail("histories", "hardly any vote sent again");
 }
 
-/* The example's bus (examples/one_bus.c) as events. A message is carried to all three, or to all but one; the rest to all. */
+/*
+ * The example's bus (examples/one_bus.c) as events: a key goes off, a mileage is proposed, a message is carried to all but
+ * one, or all the rest of them to all; a cut: the brake box's key goes off before its answer to the next message leaves.
+ */
 enum { DASH_1, DASH_2, BRAKE_BOX, NOBODY };
-static const struct { char event; uint32_t unit; uint32_t mileage; } example[] = {
-    {'P', DASH_1, 412077}, {'P', DASH_2, 412080}, {'X', DASH_2, 0}, {'B', 0, 0}, {'B', 0, 0}, {'U', BRAKE_BOX, 0}, {'A', 0, 0},
-    {'P', DASH_1, 412077}, {'A', 0, 0},
+enum event { OFF, ON, CUT, PROPOSED, LOST_BY, ALL_CARRIED };
+static const struct { enum event event; uint32_t unit; uint32_t mileage; } example[] = {
+    {OFF, BRAKE_BOX, 0}, {PROPOSED, DASH_1, 412077}, {PROPOSED, DASH_2, 412080}, {LOST_BY, DASH_2, 0}, {ALL_CARRIED, NOBODY, 0},
+    {ON, BRAKE_BOX, 0}, {CUT, BRAKE_BOX, 0}, {PROPOSED, DASH_1, 412077}, {LOST_BY, DASH_2, 0}, {ALL_CARRIED, NOBODY, 0},
+    {ON, BRAKE_BOX, 0}, {PROPOSED, DASH_1, 412077}, {LOST_BY, DASH_2, 0}, {ALL_CARRIED, NOBODY, 0},
 };
 
-/* The messages of one entry that were carried; the next one that was not. */
-static size_t carried[2];
+/* Of each entry: how far its messages were carried, and the brake box's key. */
+static struct { size_t carried; bool off, cut; } runs[2];
+
+/* The next message of the entry that was not carried. */
 static inline const uint8_t *next_message(uint32_t k)
 {
-    while (carried[k - 1] < bike.sent_count && get(bike.sent[carried[k - 1]] + 6, 2) != k)
-        carried[k - 1]++;
-    return carried[k - 1] < bike.sent_count ? bike.sent[carried[k - 1]++] : NULL;
+    size_t *carried = &runs[k - 1].carried;
+
+    while (*carried < bike.sent_count && get(bike.sent[*carried] + 6, 2) != k)
+        ++*carried;
+    return *carried < bike.sent_count ? bike.sent[(*carried)++] : NULL;
 }
 
-static inline bool carry_next(uint32_t k, uint32_t lost_by, bool off, bool cut)
+static inline bool carry_next(uint32_t k, uint32_t lost_by)
 {
     const uint8_t *message = next_message(k);
 
-    for (uint32_t u = 0; u < 3 && message != NULL; u++)
-        if (u != lost_by && !(off && u == BRAKE_BOX))
-            deliver_on(u, message, cut && u == BRAKE_BOX);
+    for (uint32_t u = 0; u < 3 && message != NULL; u++) {
+        bool cut = u == BRAKE_BOX && runs[k - 1].cut;
+
+        if (u == lost_by || (u == BRAKE_BOX && runs[k - 1].off))
+            continue;
+        deliver_on(u, message, cut);
+        if (cut) {
+            runs[k - 1].off = true;
+            runs[k - 1].cut = false;
+        }
+    }
     return message != NULL;
 }
 
 static inline void example_event(size_t i, uint32_t k)
 {
     switch (example[i].event) {
-    case 'P':
+    case OFF:
+        runs[k - 1].off = true;
+        break;
+    case ON:
+        key_on_again(example[i].unit, k);
+        runs[k - 1].off = false;
+        break;
+    case CUT:
+        runs[k - 1].cut = true;
+        break;
+    case PROPOSED:
         propose_on(example[i].unit, k, example[i].mileage + k);
         break;
-    case 'X':
-        carry_next(k, example[i].unit, false, true);
+    case LOST_BY:
+        carry_next(k, example[i].unit);
         break;
-    case 'B':
-        carry_next(k, NOBODY, true, false);
-        break;
-    case 'U':
-        key_on_again(example[i].unit, k);
-        break;
-    default:
-        while (carry_next(k, NOBODY, false, false))
+    case ALL_CARRIED:
+        while (carry_next(k, NOBODY))
             ;
     }
 }
@@ -222,8 +260,8 @@ static inline void check_example_on_cards(void)
     for (uint32_t u = 0; u < 3; u++)
         if (bike.decided[0][u] != 412078 || bike.decided[1][u] != 412079)
             fail("the example's bus on a card of two", "a unit without the decision");
-    if (bike.sent_count != 32)
-        fail("the example's bus on a card of two", "not sixteen messages of each entry");
+    if (bike.sent_count != 36)
+        fail("the example's bus on a card of two", "not eighteen messages of each entry");
 }
 
 #endif

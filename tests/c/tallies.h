@@ -1,5 +1,6 @@
 /*
- * Quorums, majorities and the lowest sender, for every n and every number of senders.
+ * Quorums, majorities and the lowest sender, for every n and every number of senders; and votes sent again, for every n,
+ * unit and sender.
  */
 #ifndef TALLIES_H
 #define TALLIES_H
@@ -149,8 +150,45 @@ static inline void check_lowest(uint32_t n, bool highest)
         }
 }
 
+/* A FIRST with the first estimate there, or a CHECK with the second: the vote goes out again. One SECOND is missing to the
+ * quorum, and it stays so, also where the sender is a unit that is not marked. */
+static inline void check_again(uint32_t engine, uint32_t n, uint32_t unit, uint32_t sender, char kind)
+{
+    struct call before = new_call(DELIVER), wanted;
+    unsigned long numbers[] = {n, unit, sender};
+    char text[80];
+
+    snprintf(text, sizeof text, "%c %lu %lu 7 4 8 6 %c", (int)engine, numbers[0], numbers[1], kind == 'C' ? '!' : '-');
+    log_words(text, before.bytes[LOG]);
+    image_words(text, before.bytes[IMAGE]);
+    for (uint32_t i = 0; i + 1 < quorums[n][engine == 'R']; i++)
+        put_mark(before.bytes[IMAGE], 'S', i, 5);
+    snprintf(text, sizeof text, "%c %c %lu %lu * 7 4 5 5", kind, (int)engine, numbers[0], numbers[2]);
+    message_words(text, before.bytes[MESSAGE]);
+    wanted = unchanged(&before, MILEAGE_ACCEPTED);
+    if (engine == 'R')
+        snprintf(text, sizeof text, "S R %lu %lu * 7 4 6 8", numbers[0], numbers[1]);
+    else
+        snprintf(text, sizeof text, "%s %lu %lu * 7 4 %s", kind == 'C' ? "S B" : "C B", numbers[0], numbers[1],
+                 kind == 'C' ? "! 8" : "6 6");
+    message_words(text, wanted.bytes[OUT]);
+    must_give("a vote sent again", &before, &wanted);
+}
+
+static inline void check_votes_again(uint32_t n)
+{
+    for (uint32_t unit = 0; unit < n; unit++)
+        for (uint32_t sender = 0; sender < n; sender++) {
+            check_again('B', n, unit, sender, 'F');
+            check_again('B', n, unit, sender, 'C');
+            check_again('R', n, unit, sender, 'F');
+        }
+}
+
 static inline void check_tallies(void)
 {
+    for (uint32_t n = 3; n <= 16; n++)
+        check_votes_again(n);
     for (uint32_t n = 3; n <= 16; n++)
         for (int highest = 0; highest < 2; highest++) {
             check_quorums('B', n, highest);

@@ -39,6 +39,8 @@ static void check_card(void)
     mileage_row *rows = undefined(3 * sizeof *rows), *again = undefined(3 * sizeof *again);
     uint8_t *first = undefined(MILEAGE_MESSAGE_LENGTH), *out = undefined(MILEAGE_MESSAGE_LENGTH), *none = undefined(MILEAGE_MESSAGE_LENGTH);
     uint32_t *decision = undefined(sizeof *decision), *none_decided = undefined(sizeof *none_decided);
+    uint8_t *again_out = undefined(MILEAGE_MESSAGE_LENGTH);
+    uint32_t *again_decision = undefined(sizeof *again_decision);
 
     must(mileage_card_start('B', 3, 0, rows, 3, 4) == 12 && mileage_card_start('B', 2, 0, rows, 3, 2) == 2, "a refused start of a row");
     must(mileage_card_start('B', 3, 0, rows, 3, 2) == 0 && sum(&rows[1], sizeof *rows), "start of a row");
@@ -49,10 +51,12 @@ static void check_card(void)
     must(mileage_card_propose('B', 3, 0, rows, 3, 2, 10000000, none, 18) == 6 && sum(none, 18) == 18, "a refused proposal on a row");
     must(mileage_card_deliver('B', 3, 0, rows, 3, first, 18, out, 18, decision) == 0 && sum(out, 18) && *decision == MILEAGE_BLANK
              && sum(&rows[1], sizeof *rows), "deliver on a row");
+    must(mileage_card_deliver('B', 3, 0, rows, 3, first, 18, again_out, 18, again_decision) == 0 && sum(again_out, 18)
+             && memcmp(out, again_out, 18) == 0 && *again_decision == MILEAGE_BLANK && sum(&rows[1], sizeof *rows), "a FIRST again on a row");
     first[7] = 4;
     must(mileage_card_deliver('B', 3, 0, rows, 3, first, 18, none, 18, none_decided) == 12 && sum(none, 18) == 18
              && *none_decided == MILEAGE_BLANK, "a delivery to no row");
-    free(rows), free(again), free(first), free(out), free(none), free(decision), free(none_decided);
+    free(rows), free(again), free(first), free(out), free(none), free(decision), free(none_decided), free(again_out), free(again_decision);
 }
 
 int main(void)
@@ -62,18 +66,22 @@ int main(void)
     uint8_t *written = undefined(MILEAGE_LOG_LENGTH), *message = undefined(MILEAGE_MESSAGE_LENGTH);
     uint32_t *decision = undefined(sizeof *decision), *fields = undefined(MILEAGE_LOG_FIELDS * sizeof *fields);
     uint32_t *message_fields = undefined(MILEAGE_MESSAGE_FIELDS * sizeof *message_fields);
+    uint8_t *again_out = undefined(MILEAGE_MESSAGE_LENGTH);
+    uint32_t *again_decision = undefined(sizeof *again_decision);
 
     must(mileage_start('B', 3, 0, 7, log, 20, image, 152) == 0 && sum(log, 20) && sum(image, 152), "start");
     must(mileage_key_on(log, 20, again, 152) == 0 && memcmp(image, again, 152) == 0, "key_on");
     must(mileage_propose(log, 20, image, 152, 412077, first, 18) == 0 && sum(first, 18), "propose");
     must(mileage_propose(log, 20, image, 152, 10000000, none, 18) == 6 && sum(none, 18) == 18, "a refused proposal");
     must(mileage_deliver(log, 20, image, 152, first, 18, out, 18, decision) == 0 && sum(out, 18) && *decision == MILEAGE_BLANK, "deliver");
+    must(mileage_deliver(log, 20, image, 152, first, 18, again_out, 18, again_decision) == 0 && sum(again_out, 18)
+             && memcmp(out, again_out, 18) == 0 && *again_decision == MILEAGE_BLANK && sum(log, 20) && sum(image, 152), "a FIRST again");
     must(mileage_read_log(log, 20, fields, 8) == 0 && sum(fields, 32), "read_log");
     must(mileage_write_log(fields, 8, written, 20) == 0 && memcmp(log, written, 20) == 0, "write_log");
     must(mileage_read_message(out, 18, message_fields, 9) == 0 && sum(message_fields, 36), "read_message");
     must(mileage_write_message(message_fields, 9, message, 18) == 0 && memcmp(out, message, 18) == 0, "write_message");
     free(log), free(image), free(again), free(first), free(out), free(none), free(written), free(message), free(decision), free(fields);
-    free(message_fields);
+    free(message_fields), free(again_out), free(again_decision);
     check_card();
     return 0;
 }

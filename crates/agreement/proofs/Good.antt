@@ -31,11 +31,12 @@ use Rattle.contents.specs.declared.Message.{Message}
 use Rattle.contents.specs.declared.State.{State}
 use Rattle.contents.proofs.Facts.{message_facts, image_facts}
 use Rattle.contents.proofs.KindRules.{check_mileage}
-use Rattle.contents.proofs.Same.{Fits, state_fits_lem}
+use Rattle.contents.proofs.Same.{Fits, state_fits_lem, first_fits, second_fits, same_estimate_lem}
 use Rattle.consensus.specs.Methods.{unless, propose_conditions, propose, deliver_conditions, deliver, key_off, key_on}
 use Rattle.consensus.specs.Conditions.{Condition}
-use Rattle.consensus.specs.Step.{quiet, says, with_first, with_second, log_write, at_round, or_if_blank, send_first, proposed, vote_kind, vote_proposal}
-use Rattle.consensus.specs.Step.{take_first, is_full, take_second, checks_with, close, seconds_with, on_kind, skip, received, recovered}
+use Rattle.consensus.specs.Step.{quiet, says, with_checks, with_first, with_second, log_write, at_round, recovered, or_if_blank, send_first, proposed}
+use Rattle.consensus.specs.Step.{vote_kind, vote_proposal, vote_first, take_first, is_full, vote_second, take_second, checks_with, close, seconds_with}
+use Rattle.consensus.specs.Step.{on_kind, skip, received}
 use Rattle.consensus.specs.Units.{WellFormed, unit_image, at_log, down_unit}
 use Rattle.consensus.specs.declared.Answer.{Answer}
 use Rattle.consensus.specs.declared.Power.{Power}
@@ -45,8 +46,8 @@ use Rattle.consensus.proofs.Branches.{by_kind, by_check, by_second, by_round, by
 use Rattle.consensus.proofs.Full.{Proper, proper_mark, proper_none, proper_unit}
 use Rattle.agreement.specs.Worlds.{Setup, settings_of}
 use Rattle.agreement.proofs.Closing.{tallied_none, tallied_mark, kind_ok_lem, filled, common_quorum, next_sure, chosen}
-use Rattle.agreement.proofs.Votes.{Of, of, is_vote, Unique, quorum, Quorum, Sure, sure_of, Chosen}
-use Rattle.agreement.proofs.Invariant.{Backed, FairMessage, Member, half, slot, Stands, VotesStand, Tallied, Fair, quorum_sure}
+use Rattle.agreement.proofs.Votes.{Of, of, is_vote, Unique, quorum, Quorum, Sure, SureOf, sure_of, Chosen}
+use Rattle.agreement.proofs.Invariant.{Backed, FairMessage, Member, half, slot, Stands, VotesStand, Tallied, Votable, Fair, quorum_sure}
 
 -- of an answer of unit u to a message of round r: what its unit, message and decision are
 pub record Good (c : Setup) (X : Message → Type 0) (A : ℕ → Type 0) (u r : ℕ) (a : Answer) : Type 0 where
@@ -57,6 +58,11 @@ pub record Good (c : Setup) (X : Message → Type 0) (A : ℕ → Type 0) (u r :
   pub decision : Of (Chosen c X A r) a.decision
 
 -- ---- well-formed units
+
+-- an estimate of an image's state that is not blank is the log's, in the same round
+there : (i s : State) → Fits i s → (b : Bool) → is_blank (half b i) ≡ false → (s.round ≡ i.round) × (half b s ≡ half b i)
+there i s h true n = second_fits i s h n
+there i s h false n = first_fits i s h n
 
 -- what the branches use of a well-formed unit
 record Ready (c : Setup) (x : U.Unit) : Type 0 where
@@ -97,8 +103,9 @@ ready_above c x r p i h =
 module _ (c : Setup) (X : Message → Type 0) (A : ℕ → Type 0) where
   -- without marks
   pub fair_none : (x : U.Unit) → x.checks ≡ no_marks → x.seconds ≡ no_marks → Sure c X A x.logged.round x.logged.proposal
-      → Sure c X A x.current.round x.current.proposal → Fair c X A x
-  fair_none x p q logged current = record { logged = logged; current = current; checks = rw p (tallied_none X _ _); seconds = rw q (tallied_none X _ _) }
+      → Sure c X A x.current.round x.current.proposal → Votable c X A x.logged → Fair c X A x
+  fair_none x p q logged current votes =
+      record { logged = logged; current = current; checks = rw p (tallied_none X _ _); seconds = rw q (tallied_none X _ _); votes = votes }
 
   -- an answer without message and decision
   good_silent : (k : Option Refusal) (u r : ℕ) (x : U.Unit) → Fair c X A x → VotesStand c X u x.logged
@@ -120,7 +127,7 @@ module _ (c : Setup) (X : Message → Type 0) (A : ℕ → Type 0) where
   good_proposed u r x v a f kept =
       let s = given x.current.proposal f.current in
       record {
-        fair = record { logged = f.logged; current = s; checks = f.checks; seconds = f.seconds };
+        fair = record { logged = f.logged; current = s; checks = f.checks; seconds = f.seconds; votes = f.votes };
         kept = kept;
         message = λ h. (
           record { proposal = s; estimate = sure_of c X A _ (or_if_blank x.current.proposal (Mileage v)) s; checked = λ k. never cc },
@@ -134,6 +141,48 @@ module _ (c : Setup) (X : Message → Type 0) (A : ℕ → Type 0) where
       given Split s = s
       given (Mileage w) s = s
 
+  -- the vote of a first estimate that is sure and stands in the log
+  good_vote_first : (u r : ℕ) (x : U.Unit) → Fair c X A (seated c u x) → VotesStand c X u x.logged → Sure c X A x.current.round x.current.first
+      → (x.logged.round ≡ x.current.round) × (x.logged.first ≡ x.current.first) → Good c X A u r (vote_first (seated c u x))
+  unfolding vote_first says
+  good_vote_first u r x f kept sure logged =
+      record {
+        fair = f;
+        kept = kept;
+        message = λ h. (
+          record {
+            proposal = proposal c.engine;
+            estimate = sure_of c X A x.current.round x.current.first sure;
+            checked = λ k g. never (let z : Check ≡ Second = rw g at k in cc);
+          },
+          λ t. (sym logged.0, stands c.engine),
+        );
+        decision = tt;
+      }
+    where
+      proposal : (g : Engine) → Sure c X A x.current.round (vote_proposal g x.current.first x.current.proposal)
+      proposal B = sure
+      proposal R = f.current
+
+      stands : (g : Engine) → half (slot g (vote_kind g)) x.logged ≡ x.current.first
+      stands B = logged.1
+      stands R = logged.1
+
+  -- in B the vote of a second estimate
+  good_vote_second : (u r : ℕ) (x : U.Unit) → c.engine ≡ B → Fair c X A (seated c u x) → VotesStand c X u x.logged → Votable c X A x.current
+      → (x.logged.round ≡ x.current.round) × (x.logged.second ≡ x.current.second) → Good c X A u r (vote_second (seated c u x))
+  unfolding vote_second says
+  good_vote_second u r x b f kept v logged =
+      record {
+        fair = f;
+        kept = kept;
+        message = λ h. (
+          record { proposal = f.current; estimate = v.second; checked = λ k. v.checked },
+          λ t. (sym logged.0, rw b logged.1),
+        );
+        decision = tt;
+      }
+
   -- a call that one of its conditions refuses changes nothing
   good_unless : (u r : ℕ) (cs : List Condition) (x : U.Unit) (a : Answer) → Fair c X A x → VotesStand c X u x.logged → Good c X A u r a
       → Good c X A u r (unless cs x a)
@@ -142,7 +191,7 @@ module _ (c : Setup) (X : Message → Type 0) (A : ℕ → Type 0) where
   module _ (u r : ℕ) (x : U.Unit) (f : Fair c X A x) (kept : VotesStand c X u x.logged) where
     rest : (p : Power) → Good c X A u r (quiet (at_log p x.settings x.logged))
     unfolding at_log
-    rest p = good_silent None u r _ (fair_none _ refl refl f.logged f.logged) kept
+    rest p = good_silent None u r _ (fair_none _ refl refl f.logged f.logged f.votes) kept
 
     pub good_off : Good c X A u r (key_off x)
     unfolding key_off down_unit
@@ -182,61 +231,69 @@ module _ (l : Limits) (c : Setup) (X : Message → Type 0) (A : ℕ → Type 0)
             let e : half k x.current ≡ m.estimate = sym (halves h.1 k) ∙ i.1 in
             inr (i.0 ∙ h.0 ∙ sym same, stays k (rw e (filled l c X A sent m here t)) ∙ e)
 
+    -- an estimate of the image is blank, or the log's in the same round
+    on_half : (b : Bool) (P : ℕ → Estimate → Type 0) → P x.current.round Blank → P x.logged.round (half b x.logged)
+        → P x.current.round (half b x.current)
+    on_half b P none old = go (is_blank (half b x.current)) refl
+      where
+        go : (t : Bool) → is_blank (half b x.current) ≡ t → P x.current.round (half b x.current)
+        go true e = subst (P x.current.round) (same_estimate_lem Blank (half b x.current) e) none
+        go false e =
+            let t = there x.current x.logged i.fits b e in
+            subst (λ r. P r (half b x.current)) t.0 (subst (P x.logged.round) t.1 old)
+
+    votes : Votable c X A x.current
+    votes =
+        record {
+          first = on_half false (λ r e. is_blank e ≡ false → Sure c X A r e) (λ n. never (sym n)) f.votes.first;
+          second = on_half true (SureOf c X A) tt f.votes.second;
+          checked = λ g. on_half true (λ r e. Of (λ v. Quorum c X Check r (Mileage v)) e) tt (f.votes.checked g);
+        }
+
     module _ (m : Message) (here : X m) (same : m.round ≡ x.current.round) where
       good_first : is_blank x.current.first ≡ true → Good c X A u x.current.round (take_first (seated c u x) m.proposal)
-      unfolding take_first log_write says
+      unfolding take_first log_write
       good_first free =
-          record {
-            fair = record { logged = f.current; current = f.current; checks = f.checks; seconds = f.seconds };
-            kept = kept_on (with_first x.current m.proposal) refl stays;
-            message = λ h. (
-              record {
-                proposal = proposal c.engine;
-                estimate = sure_of c X A x.current.round m.proposal got;
-                checked = λ k g. never (let z : Check ≡ Second = rw g at k in cc);
-              },
-              λ t. (refl, stands c.engine),
-            );
-            decision = tt;
-          }
+          good_vote_first c X A u x.current.round (log_write x set)
+          (record { logged = f.current; current = f.current; checks = f.checks; seconds = f.seconds; votes = set_votable })
+          (kept_on set refl stays) got (refl, refl)
         where
+          set : State
+          set = with_first x.current m.proposal
+
           got : Sure c X A x.current.round m.proposal
           got = subst (λ r. Sure c X A r m.proposal) same (sent m here).backed.proposal
 
-          stays : (b : Bool) → is_blank (half b x.current) ≡ false → half b (with_first x.current m.proposal) ≡ half b x.current
+          set_votable : Votable c X A set
+          set_votable = record { first = λ n. got; second = votes.second; checked = votes.checked }
+
+          stays : (b : Bool) → is_blank (half b x.current) ≡ false → half b set ≡ half b x.current
           stays true n = refl
           stays false n = never (sym n ∙ free)
 
-          proposal : (g : Engine) → Sure c X A x.current.round (vote_proposal g m.proposal x.current.proposal)
-          proposal B = got
-          proposal R = f.current
-
-          stands : (g : Engine) → half (slot g (vote_kind g)) (with_first x.current m.proposal) ≡ m.proposal
-          stands B = refl
-          stands R = refl
-
       good_check : c.engine ≡ B → is_blank x.current.second ≡ true → (t : Tally) → Proper c.n t → Tallied X Check x.current.round t
           → quorum c ≤ ones t.marks → Good c X A u x.current.round (take_second (seated c u x) (common (gathered t)))
-      unfolding take_second log_write says
+      unfolding take_second log_write
       good_check b free t proper tallied full =
-          record {
-            fair = record { logged = f.current; current = f.current; checks = tallied_none X _ _; seconds = f.seconds };
-            kept = kept_on (with_second x.current (common (gathered t))) refl stays;
-            message = λ h. (
-              record {
-                proposal = f.current;
-                estimate = of (λ v. Sure c X A x.current.round (Mileage v)) (common (gathered t)) (λ v e. quorum_sure l c X A sent (back v e));
-                checked = λ k g. of (λ v. Quorum c X Check x.current.round (Mileage v)) (common (gathered t)) back;
-              },
-              λ i. (refl, rw b refl),
-            );
-            decision = tt;
-          }
+          good_vote_second c X A u x.current.round (with_checks (log_write x set) no_marks) b
+          (record { logged = f.current; current = f.current; checks = tallied_none X _ _; seconds = f.seconds; votes = set_votable })
+          (kept_on set refl stays) set_votable (refl, refl)
         where
+          set : State
+          set = with_second x.current (common (gathered t))
+
           back : (v : ℕ) → common (gathered t) ≡ Mileage v → Quorum c X Check x.current.round (Mileage v)
           back = common_quorum X Check x.current.round c t proper tallied full
 
-          stays : (b : Bool) → is_blank (half b x.current) ≡ false → half b (with_second x.current (common (gathered t))) ≡ half b x.current
+          set_votable : Votable c X A set
+          set_votable =
+              record {
+                first = votes.first;
+                second = of (λ v. Sure c X A x.current.round (Mileage v)) (common (gathered t)) (λ v e. quorum_sure l c X A sent (back v e));
+                checked = λ g. of (λ v. Quorum c X Check x.current.round (Mileage v)) (common (gathered t)) back;
+              }
+
+          stays : (b : Bool) → is_blank (half b x.current) ≡ false → half b set ≡ half b x.current
           stays true n = never (sym n ∙ free)
           stays false n = refl
 
@@ -245,7 +302,7 @@ module _ (l : Limits) (c : Setup) (X : Message → Type 0) (A : ℕ → Type 0)
       unfolding close at_round
       good_close t proper tallied exact =
           record {
-            fair = fair_none c X A _ refl refl f.logged (next_sure l c X A sent unique r t proper tallied exact x.current.proposal f.current);
+            fair = fair_none c X A _ refl refl f.logged (next_sure l c X A sent unique r t proper tallied exact x.current.proposal f.current) f.votes;
             kept = kept;
             message = λ h. absurd (h refl);
             decision = chosen l c X A sent unique r t proper tallied exact (common (gathered t)) refl;
@@ -265,6 +322,10 @@ module _ (l : Limits) (c : Setup) (X : Message → Type 0) (A : ℕ → Type 0)
         tallied_with : Tallied X k x.current.round (mark t m.sender m.estimate)
         tallied_with = tallied_mark X k x.current.round t m here kind same (omega (arith, below, proper.low, proper.typed.cells)) tallied
 
+      -- CHECK is in B only
+      in_b : m.kind ≡ Check → c.engine ≡ B
+      in_b e = sym (sent m here).from.engine ∙ (check_mileage l m (kind_ok_lem l c X A sent Check m here e)).0
+
       good_kind : Good c X A u x.current.round (on_kind m.kind (seated c u x) m)
       unfolding checks_with seconds_with is_full mark
       good_kind =
@@ -272,13 +333,15 @@ module _ (l : Limits) (c : Setup) (X : Message → Type 0) (A : ℕ → Type 0)
           (record {
             nothing = good_silent c X A None u _ (seated c u x) f kept;
             first = λ e. good_first;
+            first_again = λ e n. good_vote_first c X A u _ x f kept (votes.first n) (there x.current x.logged i.fits false n);
+            second_again = λ e n. good_vote_second c X A u _ x (in_b e) f kept votes (there x.current x.logged i.fits true n);
             checks = λ e free n.
                 let p = proper_with Check refl e x.checks i.checks f.checks in
                 let t = tallied_with Check refl e x.checks i.checks f.checks in
                 by_check (Good c X A u x.current.round) (seated c u x) (checks_with (seated c u x) m)
-                (λ h. good_check (sym (sent m here).from.engine ∙ (check_mileage l m (kind_ok_lem l c X A sent Check m here e)).0) free _ p t
-                (leb-true _ _ h))
-                (λ h. good_silent c X A None u _ _ (record { logged = f.logged; current = f.current; checks = t; seconds = f.seconds }) kept);
+                (λ h. good_check (in_b e) free _ p t (leb-true _ _ h))
+                (λ h. good_silent c X A None u _ _
+                (record { logged = f.logged; current = f.current; checks = t; seconds = f.seconds; votes = f.votes }) kept);
             seconds = λ e n.
                 let p = proper_with Second refl e x.seconds i.seconds f.seconds in
                 let t = tallied_with Second refl e x.seconds i.seconds f.seconds in
@@ -286,7 +349,8 @@ module _ (l : Limits) (c : Setup) (X : Message → Type 0) (A : ℕ → Type 0)
                 (λ h.
                 let full : quorum c ≤ ones (bit_or x.seconds.marks (2 ^ m.sender)) = leb-true _ _ h in
                 good_close _ p t (omega (arith, i.few, mark_adds x.seconds.marks m.sender n)))
-                (λ h. good_silent c X A None u _ _ (record { logged = f.logged; current = f.current; checks = f.checks; seconds = t }) kept);
+                (λ h. good_silent c X A None u _ _
+                (record { logged = f.logged; current = f.current; checks = f.checks; seconds = t; votes = f.votes }) kept);
           })
 
   good_received : (u : ℕ) (x : U.Unit) → Ready c (seated c u x) → Fair c X A (seated c u x) → VotesStand c X u x.logged → (m : Message) → X m
@@ -296,7 +360,7 @@ module _ (l : Limits) (c : Setup) (X : Message → Type 0) (A : ℕ → Type 0)
       by_round (Good c X A u m.round) (seated c u x) m (λ h. good_skip c X A u m.round m.sender (seated c u x) f kept)
       (λ h. subst (λ r. Good c X A u r (on_kind m.kind (seated c u x) m)) (sym h) (good_kind u x i f kept m here h))
       (λ h. good_kind u (at_round x m.round m.proposal) (ready_above c (seated c u x) m.round m.proposal i h)
-      (fair_none c X A _ refl refl f.logged (sent m here).backed.proposal) kept m here refl)
+      (fair_none c X A _ refl refl f.logged (sent m here).backed.proposal f.votes) kept m here refl)
 
   pub good_deliver : (u : ℕ) (x : U.Unit) → Member l c X A u x → (m : Message) → X m → Good c X A u m.round (deliver l x m)
   unfolding deliver

@@ -280,7 +280,7 @@ begun_inv l c ok =
           record {
             well_formed = well_fresh l (settings_of c u) (ok u b);
             settings = refl;
-            fair = fair_none c _ _ _ refl refl sure sure;
+            fair = fair_none c _ _ _ refl refl sure sure (record { first = λ n. never (sym n); second = tt; checked = λ g. tt });
             kept = λ m h. absurd (Memᴰ.not-nil h);
           };
       sent = λ m h. absurd (Memᴰ.not-nil h);

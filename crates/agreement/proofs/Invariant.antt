@@ -55,11 +55,18 @@ VotesStand c X u s = (m : Message) → X m → is_vote m.kind ≡ true → m.sen
 abbrev pub Tallied : (Message → Type 0) → Kind → ℕ → Tally → Type 0
 Tallied X k r t = (s : ℕ) → is_blank (held t s) ≡ false → Vote X k s r (held t s)
 
+-- the estimates of a state, which may go out at any time: both are safe, and in B a second one that is a mileage has its quorum of CHECKs
+pub record Votable (c : Setup) (X : Message → Type 0) (A : ℕ → Type 0) (s : State) : Type 0 where
+  pub first : is_blank s.first ≡ false → Sure c X A s.round s.first
+  pub second : SureOf c X A s.round s.second
+  pub checked : c.engine ≡ B → Of (λ v. Quorum c X Check s.round (Mileage v)) s.second
+
 pub record Fair (c : Setup) (X : Message → Type 0) (A : ℕ → Type 0) (x : U.Unit) : Type 0 where
   pub logged : Sure c X A x.logged.round x.logged.proposal
   pub current : Sure c X A x.current.round x.current.proposal
   pub checks : Tallied X Check x.current.round x.checks
   pub seconds : Tallied X Second x.current.round x.seconds
+  pub votes : Votable c X A x.logged
 
 pub record Member (l : Limits) (c : Setup) (X : Message → Type 0) (A : ℕ → Type 0) (u : ℕ) (x : U.Unit) : Type 0 where
   pub well_formed : WellFormed l x
@@ -121,6 +128,14 @@ module _ (c : Setup) {X Y : Message → Type 0} (up : (m : Message) → X m → 
         checked = λ k g. of_map (λ v a. quorum_up c up a) m.estimate (b.checked k g);
       }
 
+  votable_up : (s : State) → Votable c X A s → Votable c Y C s
+  votable_up s v =
+      record {
+        first = λ n. sure_up c up more s.round s.first (v.first n);
+        second = of_map (λ w e. sure_up c up more s.round (Mileage w) e) s.second v.second;
+        checked = λ g. of_map (λ w a. quorum_up c up a) s.second (v.checked g);
+      }
+
   pub fair_up : (x : U.Unit) → Fair c X A x → Fair c Y C x
   fair_up x f =
       record {
@@ -128,4 +143,5 @@ module _ (c : Setup) {X Y : Message → Type 0} (up : (m : Message) → X m → 
         current = sure_up c up more x.current.round x.current.proposal f.current;
         checks = λ s h. vote_up c up (f.checks s h);
         seconds = λ s h. vote_up c up (f.seconds s h);
+        votes = votable_up x.logged f.votes;
       }

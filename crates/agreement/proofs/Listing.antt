@@ -1,4 +1,5 @@
--- Two histories computed: the scope paper's listing, with its cut and its key-on, to its five messages and its decision; one of R. Assumes nothing.
+-- Histories computed: the scope paper's listing, with its cut and its key-on, to its five messages and its decision; one of R; one of each engine in
+-- which a unit was cut between log and bus and its vote goes out again. Assumes nothing.
 use Prim.Native.Nat.{ℕ}
 use mathlib.Core.Path.{◌≡◌, refl}
 use mathlib.Core.List.{List, [], ◌∷◌, map}
@@ -20,9 +21,9 @@ use Rattle.formats.specs.Messages.{read_message, cleared}
 use Rattle.formats.specs.Images.{read_image, image_bytes}
 use Rattle.consensus.specs.Conditions.{first_refusal}
 use Rattle.consensus.specs.Units.{at_log, down_unit}
-use Rattle.consensus.specs.Step.{says, log_write, at_round, fresh, recovered, send_first, proposed, take_first, on_first, is_full, take_second}
-use Rattle.consensus.specs.Step.{count_check, checks_with, on_check, next_proposal, close, count_second}
-use Rattle.consensus.specs.Step.{seconds_with, on_second, on_kind, skip, caught_up, received}
+use Rattle.consensus.specs.Step.{says, log_write, at_round, fresh, recovered, send_first, proposed, vote_first, take_first, on_first, is_full, vote_second}
+use Rattle.consensus.specs.Step.{take_second, count_check, checks_with, mark_check, on_check, next_proposal, close, count_second, seconds_with, on_second}
+use Rattle.consensus.specs.Step.{on_kind, skip, caught_up, received}
 use Rattle.consensus.specs.Methods.{for_other, out_of_range, closes_last, unless, propose_conditions, propose, deliver_conditions, deliver, key_on}
 use Rattle.calls.specs.Calls.{unit_lengths, bad_log, bad_settings, bad_image, bad_message, log_bytes, message_bytes, start_call_conditions, start_call}
 use Rattle.calls.specs.Calls.{key_on_call_conditions, key_on_call, propose_call_conditions, propose_call, deliver_call_conditions, deliver_call}
@@ -127,22 +128,92 @@ pub record Majority (w : ByteWorld) : Type 0 where
   pub first : get_elem? w.sent 5 ≡ some (message F letter_r 4 3 255 1 (mileage 5) (mileage 5))
   pub skip : get_elem? w.sent 9 ≡ some (message K letter_r 4 3 2 1 blank (mileage 5))
 
--- ---- both
+-- ---- R, three units, a quorum of all three: unit 2 is cut between log and bus, comes up, and gets the FIRST again. Unit 1 sends its SECOND with a
+-- blank proposal, and after it proposed again with that one
+
+abbrev of3_r : Setup
+of3_r = record { engine = R; n = 3; entry = 7 }
+
+abbrev brake_box : List Event
+brake_box =
+    proposal 0 412077 out
+    ∷ delivery 0 0 out
+    ∷ delivery 1 0 out
+    ∷ cut 2 0 out
+    ∷ on' 2
+    ∷ delivery 2 0 out
+    ∷ delivery 0 1 out
+    ∷ delivery 0 2 out
+    ∷ delivery 0 3 out
+    ∷ proposal 1 9 out
+    ∷ delivery 1 0 out
+    ∷ []
+
+pub record AgainR (w : ByteWorld) : Type 0 where
+  pub decided : w.decided ≡ record { unit = 0; round = 0; mileage = 412077 } ∷ []
+  pub after_cut : get_elem? w.sent 3 ≡ some (message S letter_r 3 2 255 0 m blank)
+  pub with_blank : get_elem? w.sent 2 ≡ some (message S letter_r 3 1 255 0 m blank)
+  pub with_mileage : get_elem? w.sent 5 ≡ some (message S letter_r 3 1 255 0 m (mileage 9))
+
+-- ---- B: unit 1 is cut before its CHECK left, unit 0 before its SECOND did; both send again. Unit 1's SECOND, first with a blank proposal, is counted
+-- as it went out again
+
+abbrev two_cuts : List Event
+two_cuts =
+    proposal 0 412077 out
+    ∷ delivery 0 0 out
+    ∷ cut 1 0 out
+    ∷ on' 1
+    ∷ delivery 1 0 out
+    ∷ delivery 0 1 out
+    ∷ cut 0 2 out
+    ∷ on' 0
+    ∷ delivery 0 2 out
+    ∷ delivery 1 1 out
+    ∷ delivery 1 2 out
+    ∷ proposal 1 9 out
+    ∷ delivery 1 1 out
+    ∷ delivery 2 3 out
+    ∷ delivery 2 6 out
+    ∷ []
+
+pub record AgainB (w : ByteWorld) : Type 0 where
+  pub decided : w.decided ≡ record { unit = 2; round = 0; mileage = 412077 } ∷ []
+  pub check : get_elem? w.sent 2 ≡ some (message C letter_b 3 1 255 0 m m)
+  pub second : get_elem? w.sent 3 ≡ some (message S letter_b 3 0 255 0 m m)
+  pub with_blank : get_elem? w.sent 4 ≡ some (message S letter_b 3 1 255 0 m blank)
+  pub with_mileage : get_elem? w.sent 6 ≡ some (message S letter_b 3 1 255 0 m (mileage 9))
+  -- the log that the cut delivery wrote, as it still is, and its image
+  pub unit_0 : w.units 0 ≡ up log_0 (unmarked log_0)
+
+-- ---- all
 
 -- all starts are accepted
-pub computed : (starts of3 ≡ replicate 3 0) × (OfListing (after' of3 listing) × ((starts of4 ≡ replicate 4 0) × Majority (after' of4 of_r)))
-unfolding ones holders all_hold common first_passing leads majority no_marks mark gathered_from gathered
-    mileage_or_blank mileage_or_split second_estimate_ok same_mileage state_ok log_ok every cell_ok cells_ok tally_ok checks_allowed image_ok same_settings
-    state_fits fits first_ok check_ok second_ok skip_ok kind_ok message_ok num_at bytes_of read_log read_message cleared read_image image_bytes first_refusal
-    at_log down_unit says log_write at_round fresh recovered send_first proposed take_first on_first is_full take_second count_check checks_with on_check
-    next_proposal close count_second seconds_with on_second on_kind skip caught_up received for_other out_of_range closes_last unless propose_conditions propose
-    deliver_conditions deliver key_on unit_lengths bad_log bad_settings bad_image bad_message log_bytes message_bytes start_call_conditions start_call
-    key_on_call_conditions key_on_call propose_call_conditions propose_call deliver_call_conditions deliver_call run begun after after_proposal after_cut
-    after_key_on proposal_of delivering key_on_of step
+pub computed : (starts of3 ≡ replicate 3 0)
+    × (OfListing (after' of3 listing)
+    × (AgainB (after' of3 two_cuts)
+    × ((starts of4 ≡ replicate 4 0) × (Majority (after' of4 of_r) × ((starts of3_r ≡ replicate 3 0) × AgainR (after' of3_r brake_box))))))
+unfolding ones holders all_hold common first_passing leads majority no_marks mark gathered_from gathered mileage_or_blank mileage_or_split second_estimate_ok
+    same_mileage state_ok log_ok every cell_ok cells_ok tally_ok checks_allowed image_ok same_settings state_fits fits first_ok check_ok second_ok skip_ok
+    kind_ok message_ok num_at bytes_of read_log read_message cleared read_image image_bytes first_refusal at_log down_unit says log_write at_round fresh
+    recovered send_first proposed vote_first take_first on_first is_full vote_second take_second count_check checks_with mark_check on_check next_proposal close
+    count_second seconds_with on_second on_kind skip caught_up received for_other out_of_range closes_last unless propose_conditions propose deliver_conditions
+    deliver key_on unit_lengths bad_log bad_settings bad_image bad_message log_bytes message_bytes start_call_conditions start_call key_on_call_conditions
+    key_on_call propose_call_conditions propose_call deliver_call_conditions deliver_call run begun after after_proposal after_cut after_key_on proposal_of
+    delivering key_on_of step
 computed = (
   refl,
   (
     record { sent = refl; proposed = refl; decided = refl; unit_0 = refl },
-    (refl, record { proposed = refl; decided = refl; first = refl; skip = refl }),
+    (
+      record { decided = refl; check = refl; second = refl; with_blank = refl; with_mileage = refl; unit_0 = refl },
+      (
+        refl,
+        (
+          record { proposed = refl; decided = refl; first = refl; skip = refl },
+          (refl, record { decided = refl; after_cut = refl; with_blank = refl; with_mileage = refl }),
+        ),
+      ),
+    ),
   ),
 )

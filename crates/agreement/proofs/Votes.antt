@@ -73,7 +73,7 @@ pub record Other (X : Message → Type 0) (r v u : ℕ) : Type 0 where
   pub vote : Vote X Second u r estimate
   pub differs : has_value v estimate ≡ false
 
--- votes of one kind, unit and round are the same
+-- votes of one kind, unit and round have one estimate, however often they are sent
 abbrev pub Unique : (Message → Type 0) → Type 0
 Unique X = (a b : Message) → X a → X b → is_vote a.kind ≡ true → a.kind ≡ b.kind → a.sender ≡ b.sender → a.round ≡ b.round
     → a.estimate ≡ b.estimate
@@ -115,7 +115,7 @@ sure_of c X A r (Mileage v) s = s
 abbrev pub Chosen : Setup → (Message → Type 0) → (ℕ → Type 0) → ℕ → ℕ → Type 0
 Chosen c X A r v = Quorum c X Second r (Mileage v) × A v
 
--- ---- where votes are unique
+-- ---- where the estimates of votes are unique
 
 module _ (c : Setup) (X : Message → Type 0) (unique : Unique X) where
   one_vote : (k : Kind) → is_vote k ≡ true → (u r : ℕ) (d e : Estimate) → Vote X k u r d → Vote X k u r e → d ≡ e

@@ -16,7 +16,7 @@ use Rattle.contents.specs.declared.Kind.{Kind}
 use Rattle.contents.specs.declared.Message.{Message}
 use Rattle.consensus.specs.Methods.{closes_last, propose_conditions, propose, deliver_conditions, deliver, key_off, key_on}
 use Rattle.consensus.specs.Step.{says, log_write, at_round, fresh, recovered, send_first, proposed}
-use Rattle.consensus.specs.Step.{take_first, take_second, close, on_kind, skip, received}
+use Rattle.consensus.specs.Step.{vote_first, take_first, vote_second, take_second, close, on_kind, skip, received}
 use Rattle.consensus.specs.Units.{at_log, down_unit}
 use Rattle.consensus.specs.declared.Answer.{Answer}
 use Rattle.consensus.specs.declared.Unit as U
@@ -56,7 +56,7 @@ LowAnswer k a = Low k a.unit × (a.message.round ≤ k)
 module _ (k : ℕ) where
   -- a SECOND closes a round below k, and so none above k is reached
   low_kind : (kind : Kind) (x : U.Unit) (m : Message) → x.current.round < k → x.logged.round ≤ k → LowAnswer k (on_kind kind x m)
-  unfolding take_first take_second close log_write at_round says
+  unfolding vote_first take_first vote_second take_second close log_write at_round says
   low_kind kind x m now logged =
       let same : (x.current.round ≤ k) × (x.logged.round ≤ k) = (omega arith, logged) in
       let written : (x.current.round ≤ k) × (x.current.round ≤ k) = (omega arith, omega arith) in
@@ -64,7 +64,9 @@ module _ (k : ℕ) where
       (record {
         nothing = (same, omega arith);
         first = λ e free. (written, written.0);
+        first_again = λ e there. (same, same.0);
         checks = λ e free new. by_check (LowAnswer k) x _ (λ full. (written, written.0)) (λ short. (same, omega arith));
+        second_again = λ e there. (same, same.0);
         seconds = λ e new. by_second (LowAnswer k) x _ (λ full. ((omega arith, logged), omega arith)) (λ short. (same, omega arith));
       })
 

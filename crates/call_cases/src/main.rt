@@ -1,5 +1,5 @@
 // The scope paper's worked cases, by the functions that the C entries of `mileage` are one call of: its listing, the examples of the numbers 1 to
-// 7, and the last rounds. What is printed is held to the file `stdout`.
+// 7, and the last rounds; and request 2's vote sent again. What is printed is held to the file `stdout`.
 #![tactic(auto)]
 
 mod show;
@@ -10,6 +10,8 @@ use tally::limits;
 
 // Letters and limits as numbers, by `as`: u32::from is no constant's.
 const B: u32 = b'B' as u32;
+
+const R: u32 = b'R' as u32;
 
 const F: u32 = b'F' as u32;
 
@@ -206,10 +208,46 @@ fn last_rounds<P: Print>(rt: &P) -> io::Result<()> {
     Ok(())
 }
 
+// A bike of three with engine R, at unit 1: unit 0's FIRST comes to it. Hands back its SECOND.
+fn unit_1_r<P: Print>(rt: &P, first: &MessageBytes) -> io::Result<MessageBytes> {
+    let mut unit = PrintedUnit::new(rt);
+    unit.start("R,3,7 unit 1", R, 3, 1, 7)?;
+    let second1 = unit.deliver("D,1,0", first)?;
+    Ok(second1)
+}
+
+// At unit 2: the key goes off between its log write and its SECOND. The same FIRST makes it send that SECOND again, and its log and image stay as
+// they were. Hands back this SECOND.
+fn unit_2_r<P: Print>(rt: &P, first: &MessageBytes) -> io::Result<MessageBytes> {
+    let mut unit = PrintedUnit::new(rt);
+    unit.start("R,3,7 unit 2", R, 3, 2, 7)?;
+    unit.deliver("W,2,0", first)?;
+    unit.key_off();
+    println!(rt; "D,2,0: the unit is down, there is no call")?;
+    unit.key_on("U,2")?;
+    let second2 = unit.deliver("D,2,0", first)?;
+    Ok(second2)
+}
+
+// The events at unit 0: of the three SECONDs that it needs two come, and then the one sent again.
+fn vote_sent_again<P: Print>(rt: &P) -> io::Result<()> {
+    let mut unit = PrintedUnit::new(rt);
+    unit.start("R,3,7 unit 0", R, 3, 0, 7)?;
+    let first = unit.propose("P,0,412077", 412077)?;
+    let second0 = unit.deliver("D,0,0", &first)?;
+    let second1 = unit_1_r(rt, &first)?;
+    unit.deliver("D,0,1", &second0)?;
+    unit.deliver("D,0,2", &second1)?;
+    let second2 = unit_2_r(rt, &first)?;
+    unit.deliver("D,0,3", &second2)?;
+    Ok(())
+}
+
 fn main(rt: HostRuntime) -> io::Result<()> {
     listing(&rt)?;
     examples(&rt)?;
     mileages(&rt)?;
     image_behind(&rt)?;
-    last_rounds(&rt)
+    last_rounds(&rt)?;
+    vote_sent_again(&rt)
 }

@@ -21,9 +21,9 @@ use Rattle.formats.specs.Messages.{read_message, cleared}
 use Rattle.formats.specs.Images.{read_image, image_bytes}
 use Rattle.consensus.specs.Conditions.{first_refusal}
 use Rattle.consensus.specs.Units.{at_log, down_unit}
-use Rattle.consensus.specs.Step.{says, log_write, at_round, fresh, recovered, send_first, proposed, take_first, on_first, is_full, take_second}
-use Rattle.consensus.specs.Step.{count_check, checks_with, on_check, next_proposal, close, count_second}
-use Rattle.consensus.specs.Step.{seconds_with, on_second, on_kind, skip, caught_up, received}
+use Rattle.consensus.specs.Step.{says, log_write, at_round, fresh, recovered, send_first, proposed, vote_first, take_first, on_first, is_full, vote_second}
+use Rattle.consensus.specs.Step.{take_second, count_check, checks_with, mark_check, on_check, next_proposal, close, count_second, seconds_with, on_second}
+use Rattle.consensus.specs.Step.{on_kind, skip, caught_up, received}
 use Rattle.consensus.specs.Methods.{for_other, out_of_range, closes_last}
 use Rattle.calls.specs.Calls.{CallAnswer, unit_lengths, bad_log, bad_settings, bad_image, bad_message, log_bytes, message_bytes, start_call_conditions}
 use Rattle.calls.specs.Calls.{start_call, key_on_call_conditions, key_on_call, propose_call_conditions}
@@ -209,6 +209,14 @@ of_five round p = log B 5 0 round (mileage p) blank blank
 abbrev unit3_r : ℕ → ℕ → List ℕ
 unit3_r round p = log R 4 3 round (mileage p) blank blank
 
+-- a unit that sends again what its log says: nothing else changes
+abbrev again : List ℕ → List ℕ → List ℕ → Case
+again log message out = gives (deliver_to log message) log log out none
+
+-- a fresh unit 0 with a CHECK of unit 1
+abbrev one_check : List ℕ
+one_check = image fresh_b (tally 2 (blank ++ mileage 5)) (tally 0 [])
+
 -- proposing to a fresh unit, beside an image with these tallies; delivering to it
 abbrev beside : List ℕ → List ℕ → UnitCall
 beside checks seconds = propose fresh_b (image fresh_b checks seconds) 5 (junk 18)
@@ -321,6 +329,19 @@ cases =
     (in_b C 0 0 (mileage 5) (mileage 5)) none
     ∷ gives (deliver_to six_r (in_r F 1 (mileage 5) (mileage 5))) (unit_r 0 (mileage 6) (mileage 5)) (unit_r 0 (mileage 6) (mileage 5))
     (in_r S 0 (mileage 5) (mileage 6)) none
+    -- FIRST again, of another mileage too: the unit's own estimate goes out, as CHECK in B, also where the second is there, and as SECOND in R with
+    -- the image's proposal, also where that is blank; of the unit itself too
+    ∷ again (unit_b 0 (mileage 6) (mileage 5) blank) (in_b F 1 0 (mileage 9) (mileage 9)) (in_b C 0 0 (mileage 5) (mileage 5))
+    ∷ again (unit_b 0 (mileage 6) (mileage 5) split) first (in_b C 0 0 (mileage 5) (mileage 5))
+    ∷ again (unit_r 0 (mileage 6) (mileage 5)) (in_r F 1 (mileage 9) (mileage 9)) (in_r S 0 (mileage 5) (mileage 6))
+    ∷ again (unit_r 0 blank (mileage 5)) (in_r F 0 (mileage 9) (mileage 9)) (in_r S 0 (mileage 5) blank)
+    -- CHECK again: the unit's own second estimate goes out, a mileage or split, with the image's proposal; of a marked sender, where the second
+    -- estimate is blank, still nothing; FIRST where the first is blank takes it, though the second is there
+    ∷ again (unit_b 0 blank blank (mileage 5)) (in_b C 1 0 (mileage 9) (mileage 9)) (in_b S 0 0 (mileage 5) blank)
+    ∷ again (unit_b 0 (mileage 6) (mileage 5) split) (in_b C 0 0 (mileage 5) (mileage 5)) (in_b S 0 0 split (mileage 6))
+    ∷ case (deliver fresh_b one_check (in_b C 1 0 (mileage 9) (mileage 9)) (junk 18)) 0 fresh_b one_check zeros none
+    ∷ gives (deliver_to (unit_b 0 (mileage 6) blank split) first) (unit_b 0 (mileage 6) (mileage 5) split) (unit_b 0 (mileage 6) (mileage 5) split)
+    (in_b C 0 0 (mileage 5) (mileage 5)) none
     -- a message below the unit's round, and a SKIP above it
     ∷ gives (deliver_to (six_b 4) first) (six_b 4) (six_b 4) (message K B 3 0 1 4 blank (mileage 6)) none
     ∷ gives (deliver_to fresh_b (message K B 3 1 0 4 blank (mileage 6))) fresh_b (six_b 4) zeros none
@@ -342,10 +363,10 @@ each_same [] e = tt
 each_same (c ∷ cs) e = (ap (λ (l : List Outcome). get_or l 0 c.expected) e, each_same cs (ap (drop 1) e))
 
 pub all_cases_hold : Each (λ c. outcome c.question ≡ c.expected) cases
-unfolding ones holders all_hold common first_passing lowest leads majority no_marks mark gathered_from gathered
-    mileage_or_blank mileage_or_split second_estimate_ok same_mileage state_ok log_ok every cell_ok cells_ok tally_ok checks_allowed image_ok same_settings
-    state_fits fits first_ok check_ok second_ok skip_ok kind_ok message_ok num_at bytes_of read_log read_message cleared read_image image_bytes first_refusal
-    at_log down_unit says log_write at_round fresh recovered send_first proposed take_first on_first is_full take_second count_check checks_with on_check
+unfolding ones holders all_hold common first_passing lowest leads majority no_marks mark gathered_from gathered mileage_or_blank mileage_or_split
+    second_estimate_ok same_mileage state_ok log_ok every cell_ok cells_ok tally_ok checks_allowed image_ok same_settings state_fits fits first_ok check_ok
+    second_ok skip_ok kind_ok message_ok num_at bytes_of read_log read_message cleared read_image image_bytes first_refusal at_log down_unit says log_write
+    at_round fresh recovered send_first proposed vote_first take_first on_first is_full vote_second take_second count_check checks_with mark_check on_check
     next_proposal close count_second seconds_with on_second on_kind skip caught_up received for_other out_of_range closes_last unit_lengths bad_log bad_settings
     bad_image bad_message log_bytes message_bytes start_call_conditions start_call key_on_call_conditions key_on_call propose_call_conditions propose_call
     deliver_call_conditions deliver_call

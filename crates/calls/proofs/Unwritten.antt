@@ -9,6 +9,7 @@ use borrow.Author.Tests.{eqb-false, not-false}
 use Rattle.tally.specs.Limits.{Limits, Sane, blank_code}
 use Rattle.tally.specs.Refusal.{number_of}
 use Rattle.contents.specs.Images.{fits}
+use Rattle.contents.specs.declared.Message.{Message}
 use Rattle.formats.specs.Images.{image_format, read_image, image_bytes}
 use Rattle.formats.specs.Logs.{log_format, read_log}
 use Rattle.formats.specs.Messages.{read_message, cleared}
@@ -20,7 +21,9 @@ use Rattle.consensus.specs.Conditions.{Condition, first_refusal, NoneHolds}
 use Rattle.consensus.specs.Step.{received}
 use Rattle.consensus.specs.Units.{unit_log, unit_image}
 use Rattle.consensus.specs.declared.Answer.{Answer}
+use Rattle.consensus.specs.declared.Unit as U
 use Rattle.consensus.proofs.Laws.{received_below}
+use Rattle.consensus.proofs.Repeats.{Repeats, again}
 use Rattle.calls.specs.Calls.{CallAnswer, called, unless_refused, bad_log, bad_image, log_bytes, unit_of, deliver_call_conditions, deliver_call}
 use Rattle.formats.proofs.Steps.{was_read}
 use Rattle.calls.proofs.Held.{fit_image}
@@ -66,10 +69,24 @@ module _ (l : Limits) (sane : Sane l) (log image message out : List ℕ) (number
       ∙ ap (image_bytes l) (same ∙ read_image_lem.1)
       ∙ (written_read (image_format l) _ (images.lawful l sane) image _ bytes (was_read (read_image l image) read_image_lem.0)).1
 
-  -- a message below the unit's round changes neither
-  pub below_stays : Bytes log → Bytes image → (read_message l message).contents.round < (unit_of l log image).current.round
-      → ((deliver_call l log image message out).log ≡ log) × ((deliver_call l log image message out).image ≡ image)
-  below_stays a b h =
-      let u = unit_of l log image in
-      let same = received_below u.power u.settings u.logged u.current u.checks u.seconds (read_message l message).contents h in
-      (log_stays a (ap (λ (x : Answer). unit_log x.unit) same), image_stays b (ap (λ (x : Answer). unit_image x.unit) same))
+  module _ (bytes : Bytes log × Bytes image) where
+    abbrev u : U.Unit
+    u = unit_of l log image
+
+    abbrev m : Message
+    m = (read_message l message).contents
+
+    abbrev Stay : Type 0
+    Stay = ((deliver_call l log image message out).log ≡ log) × ((deliver_call l log image message out).image ≡ image)
+
+    unit_stays : (received u m).unit ≡ u → Stay
+    unit_stays same = (log_stays bytes.0 (ap unit_log same), image_stays bytes.1 (ap unit_image same))
+
+    -- a message below the unit's round changes neither
+    pub below_stays : m.round < u.current.round → Stay
+    below_stays h =
+        unit_stays (ap (λ (x : Answer). x.unit) (received_below u.power u.settings u.logged u.current u.checks u.seconds m h))
+
+    -- nor does a vote sent again
+    pub again_stays : Repeats u m → Stay
+    again_stays r = unit_stays (again u m r).unit

@@ -1,5 +1,5 @@
--- Histories of cards computed, of three units: in B two entries interleaved, a cut in one, both decided; in R one entry with a refused call, a key-off
--- and a key-on, decided. One card has one row alone. Assumes nothing.
+-- Histories of cards computed, of three units: in B two entries interleaved, a cut in one, both decided; in R one entry with a refused call, a cut, a
+-- key-off and two key-ons, decided by a vote sent again. One card has one row alone. Assumes nothing.
 use Prim.Native.Nat.{ℕ}
 use mathlib.Core.Path.{◌≡◌, refl}
 use mathlib.Core.Bool.{cond}
@@ -19,9 +19,9 @@ use Rattle.formats.specs.Numbers.{num_at, bytes_of}
 use Rattle.formats.specs.Messages.{read_message, cleared}
 use Rattle.consensus.specs.Conditions.{first_refusal}
 use Rattle.consensus.specs.Units.{at_log, down_unit}
-use Rattle.consensus.specs.Step.{says, log_write, at_round, fresh, recovered, send_first, proposed, take_first, on_first, is_full, take_second}
-use Rattle.consensus.specs.Step.{count_check, checks_with, on_check, next_proposal, close, count_second}
-use Rattle.consensus.specs.Step.{seconds_with, on_second, on_kind, skip, caught_up, received}
+use Rattle.consensus.specs.Step.{says, log_write, at_round, fresh, recovered, send_first, proposed, vote_first, take_first, on_first, is_full, vote_second}
+use Rattle.consensus.specs.Step.{take_second, count_check, checks_with, mark_check, on_check, next_proposal, close, count_second, seconds_with, on_second}
+use Rattle.consensus.specs.Step.{on_kind, skip, caught_up, received}
 use Rattle.consensus.specs.Methods.{for_other, out_of_range, closes_last}
 use Rattle.calls.specs.Calls.{bad_settings, bad_message, message_bytes}
 use Rattle.calls.proofs.Examples.{junk}
@@ -88,13 +88,13 @@ pub record Worked (w : CardWorld) : Type 0 where
   pub missing : (w.units 2).stage 2 ≡ new
 
 pub computed : Worked (run (step today B 3) (begun cards) events)
-unfolding ones holders all_hold common first_passing leads majority no_marks mark gathered_from gathered
-    mileage_or_blank mileage_or_split second_estimate_ok same_mileage state_ok log_ok every cell_ok cells_ok tally_ok checks_allowed image_ok same_settings
-    state_fits fits first_ok check_ok second_ok skip_ok kind_ok message_ok num_at bytes_of read_message cleared first_refusal at_log down_unit says log_write
-    at_round fresh recovered send_first proposed take_first on_first is_full take_second count_check checks_with on_check next_proposal close count_second
-    seconds_with on_second on_kind skip caught_up received for_other out_of_range closes_last row_log row_image wrong_count names_no_row bad_settings
-    bad_row_log other_row bad_row_image bad_message message_bytes card_start_conditions card_start_call card_key_on_conditions card_key_on_call
-    card_propose_conditions card_propose_call card_deliver_conditions card_deliver_call run next leave after delivering step
+unfolding ones holders all_hold common first_passing leads majority no_marks mark gathered_from gathered mileage_or_blank mileage_or_split second_estimate_ok
+    same_mileage state_ok log_ok every cell_ok cells_ok tally_ok checks_allowed image_ok same_settings state_fits fits first_ok check_ok second_ok skip_ok
+    kind_ok message_ok num_at bytes_of read_message cleared first_refusal at_log down_unit says log_write at_round fresh recovered send_first proposed
+    vote_first take_first on_first is_full vote_second take_second count_check checks_with mark_check on_check next_proposal close count_second seconds_with
+    on_second on_kind skip caught_up received for_other out_of_range closes_last row_log row_image wrong_count names_no_row bad_settings bad_row_log other_row
+    bad_row_image bad_message message_bytes card_start_conditions card_start_call card_key_on_conditions card_key_on_call card_propose_conditions
+    card_propose_call card_deliver_conditions card_deliver_call run next leave after delivering step
 computed = record { sent = refl; proposed = refl; decided = refl; recovered = refl; logged = refl; in_image_lem = refl; missing = refl }
 
 -- ---- engine R: a quorum is all three
@@ -106,17 +106,20 @@ turned_down = proposes (beside_unit R 3 2) (lent_card 2) 2 412077 out
 abbrev begun_r : CardWorld
 begun_r = run (step today R 3) (begun cards) (start 0 1 ∷ start 1 1 ∷ start 2 1 ∷ [])
 
--- the key of unit 2's row is off when one SECOND of three is marked, and the mark is lost
+-- unit 2's row is cut before its SECOND left; its key goes off once more when one SECOND of three is marked, and the mark is lost; on again, it sends
+-- its SECOND, which is counted
 abbrev events_r : List CardEvent
 events_r =
     call turned_down
     ∷ proposal 0 1 412077 out
     ∷ delivery 0 0 out
     ∷ delivery 1 0 out
-    ∷ delivery 2 0 out
+    ∷ cut 2 0 out no_row
+    ∷ on 2 1
     ∷ delivery 2 1 out
     ∷ off 2 1 no_row
     ∷ on 2 1
+    ∷ delivery 2 0 out
     ∷ delivery 2 2 out
     ∷ delivery 2 3 out
     ∷ delivery 2 1 out
@@ -134,7 +137,7 @@ pub computed_r : WorkedR (run (step today R 3) begun_r events_r)
 unfolding ones holders all_hold common first_passing leads majority no_marks mark gathered_from gathered
     mileage_or_blank mileage_or_split second_estimate_ok same_mileage state_ok log_ok every cell_ok cells_ok tally_ok checks_allowed image_ok same_settings
     state_fits fits first_ok check_ok second_ok skip_ok kind_ok message_ok num_at bytes_of read_message cleared first_refusal at_log down_unit says log_write
-    at_round fresh recovered send_first proposed take_first on_first is_full next_proposal close count_second
+    at_round fresh recovered send_first proposed vote_first take_first on_first is_full next_proposal close count_second
     seconds_with on_second on_kind skip caught_up received for_other out_of_range closes_last row_log row_image wrong_count names_no_row bad_settings
     bad_row_log other_row bad_row_image bad_message message_bytes card_start_conditions card_start_call card_key_on_conditions card_key_on_call
     card_propose_conditions card_propose_call card_deliver_conditions card_deliver_call run next leave after run_call delivering step

@@ -24,6 +24,7 @@ use Rattle.consensus.specs.Step.{fresh, recovered, proposed, received}
 use Rattle.consensus.specs.Units.{unit_log, at_log, down_unit}
 use Rattle.consensus.specs.declared.Unit as U
 use Rattle.consensus.proofs.Answers.{proposed_keeps}
+use Rattle.consensus.proofs.Repeats.{Repeats, again}
 use Rattle.cards.specs.Calls.{CardAnswer, card_called, row_at, unless_card, Beside, bad_beside, settings_of_row, bad_row_log, other_row}
 use Rattle.cards.specs.Calls.{bad_row_image, card_start_conditions, card_start_call, card_key_on_conditions, card_key_on_call, card_propose_conditions}
 use Rattle.cards.specs.Calls.{card_propose_call, card_deliver_conditions, card_deliver_call}
@@ -224,6 +225,11 @@ module _ (l : Limits) (b : Beside) (rows rows' : List CardRow) (len : length row
         ∙ ap (λ (x : U.Unit). set rows (m.entry - 1) (row_of x)) same
         ∙ ap (set rows (m.entry - 1)) (delivered_same z)
         ∙ set-get_or rows (m.entry - 1) no_row
+
+    -- so does a vote sent again
+    pub again_keeps : (card_deliver_call l b rows bs out).number ≡ 0 → Repeats (row_unit l (row_at rows m.entry)) m
+        → (card_deliver_call l b rows bs out).rows ≡ rows
+    again_keeps z r = deliver_keeps z (again (row_unit l (row_at rows m.entry)) m r).unit
 
 -- ---- what is not read
 

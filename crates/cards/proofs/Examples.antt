@@ -16,8 +16,8 @@ use Rattle.formats.specs.Numbers.{num_at, bytes_of}
 use Rattle.formats.specs.Messages.{read_message, cleared}
 use Rattle.consensus.specs.Conditions.{first_refusal}
 use Rattle.consensus.specs.Units.{at_log, down_unit}
-use Rattle.consensus.specs.Step.{says, log_write, fresh, recovered, send_first, proposed, take_first, on_first, is_full, next_proposal, close, count_second}
-use Rattle.consensus.specs.Step.{seconds_with, on_second, on_kind, at_round, caught_up, received}
+use Rattle.consensus.specs.Step.{says, log_write, fresh, recovered, send_first, proposed, vote_first, take_first, on_first, is_full, next_proposal, close}
+use Rattle.consensus.specs.Step.{count_second, seconds_with, on_second, on_kind, at_round, caught_up, received}
 use Rattle.consensus.specs.Methods.{for_other, out_of_range, closes_last}
 use Rattle.calls.specs.Calls.{bad_settings, bad_message, message_bytes}
 use Rattle.calls.proofs.Examples.{B, R, F, S, C, K, two, mileage, blank, junk}
@@ -162,6 +162,9 @@ cases =
     -- a FIRST is logged in the row of its entry, and answered with CHECK
     ∷ gives (delivers (first 2) (new 2)) (card (row (fields 2 0 none 5) (fields 2 0 none 5)))
     (C ∷ B ∷ 3 ∷ 0 ∷ 255 ∷ 0 ∷ (two 2 ++ (two 0 ++ (mileage 5 ++ mileage 5))))
+    -- FIRST again, of another mileage: the row's own estimate goes out, and the card stays
+    ∷ gives (delivers (first 2) (row (fields 2 0 6 9) (fields 2 0 6 9))) (card (row (fields 2 0 6 9) (fields 2 0 6 9)))
+    (C ∷ B ∷ 3 ∷ 0 ∷ 255 ∷ 0 ∷ (two 2 ++ (two 0 ++ (mileage 9 ++ mileage 9))))
     -- 1; 4 before 12; 12 before 2; 2 before 3; 3 before 5; 5
     ∷ refused 1 zeros (deliver b [] (first 2) (junk 18))
     ∷ refused 1 zeros (deliver b (card (new 2)) (junk 17) (junk 18))
@@ -196,8 +199,8 @@ each_same (c ∷ cs) e = (ap (λ (l : List CardAnswer). get_or l 0 c.expected) e
 pub all_cases_hold : Each (λ c. answer c.call ≡ c.expected) cases
 unfolding ones no_marks mark mileage_or_blank mileage_or_split second_estimate_ok same_mileage
     state_ok log_ok every cell_ok cells_ok tally_ok checks_allowed image_ok same_settings state_fits fits first_ok check_ok second_ok skip_ok kind_ok message_ok
-    num_at bytes_of read_message cleared first_refusal at_log down_unit says log_write fresh recovered send_first proposed take_first on_first is_full
-    seconds_with on_kind caught_up at_round next_proposal close count_second on_second common all_hold first_passing lowest gathered_from gathered
+    num_at bytes_of read_message cleared first_refusal at_log down_unit says log_write fresh recovered send_first proposed vote_first take_first on_first
+    is_full seconds_with on_kind caught_up at_round next_proposal close count_second on_second common all_hold first_passing lowest gathered_from gathered
     received for_other out_of_range closes_last bad_settings bad_message message_bytes wrong_count names_no_row bad_row_log other_row bad_row_image
     card_start_conditions card_start_call card_key_on_conditions card_key_on_call card_propose_conditions card_propose_call card_deliver_conditions
     card_deliver_call row_log row_image

@@ -6,8 +6,8 @@ use Rattle.tally.specs.Limits.{Limits}
 use Rattle.tally.specs.declared.Estimate.TheVariants.{Blank}
 use Rattle.contents.specs.declared.Message.{Message}
 use Rattle.consensus.specs.Methods.{propose_conditions, propose, deliver_conditions, deliver}
-use Rattle.consensus.specs.Step.{with_current, log_write, at_round, send_first, proposed, take_first, take_second, checks_with, close, seconds_with, on_kind}
-use Rattle.consensus.specs.Step.{skip, received}
+use Rattle.consensus.specs.Step.{with_current, log_write, at_round, send_first, proposed, vote_first, take_first, vote_second, take_second, checks_with}
+use Rattle.consensus.specs.Step.{close, seconds_with, on_kind, skip, received}
 use Rattle.consensus.specs.Units.{unit_log, unit_image}
 use Rattle.consensus.specs.declared.Answer.{Answer}
 use Rattle.consensus.specs.declared.Unit as U
@@ -19,7 +19,7 @@ pub record Plain (u : U.Unit) (a : Answer) : Type 0 where
   pub power : a.unit.power ≡ u.power
 
 pub plain_received : (u : U.Unit) (m : Message) → Plain u (received u m)
-unfolding skip take_first take_second close log_write at_round
+unfolding skip vote_first take_first vote_second take_second close log_write at_round
 plain_received u m =
     by_round (Plain u) u m (λ h. record { none = refl; power = refl }) (λ h. kind u refl) (λ h. kind (at_round u m.round m.proposal) refl)
   where
@@ -29,7 +29,9 @@ plain_received u m =
         (record {
           nothing = record { none = refl; power = same };
           first = λ k h. record { none = refl; power = same };
+          first_again = λ k h. record { none = refl; power = same };
           checks = λ k h i. by_check (Plain u) v (checks_with v m) (λ f. record { none = refl; power = same }) (λ f. record { none = refl; power = same });
+          second_again = λ k h. record { none = refl; power = same };
           seconds = λ k h. by_second (Plain u) v (seconds_with v m) (λ f. record { none = refl; power = same }) (λ f. record { none = refl; power = same });
         })
 

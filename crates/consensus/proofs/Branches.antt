@@ -1,13 +1,12 @@
 -- What holds of each branch's answer holds of the step's. Assumes nothing.
 use Rattle.std.specs.Prelude.{Option, Some}
-use Rattle.std.proofs.lemmas.Bool.{and_parts}
 use Prim.Native.Nat.{◌≤◌, ◌<◌}
 use mathlib.Core.Path.{◌≡◌, refl}
-use mathlib.Core.Bool.{Bool, true, false, cond, not, ◌&&◌}
+use mathlib.Core.Bool.{Bool, true, false, cond}
 use mathlib.Core.List.{List, [], ◌∷◌}
 use native.Mathlib.Omega.{arith}
 use lib.Dec.{eqb, ltb}
-use borrow.Author.Tests.{ltb-true, ltb-false, not-true}
+use borrow.Author.Tests.{ltb-true, ltb-false}
 use Rattle.tally.specs.Gathered.{common}
 use Rattle.tally.specs.Refusal.{number_of}
 use Rattle.tally.specs.Tally.{is_marked, gathered}
@@ -20,8 +19,8 @@ use Rattle.contents.specs.declared.Kind.TheVariants.{Empty, First, Check, Second
 use Rattle.contents.specs.declared.Message.{Message}
 use Rattle.consensus.specs.Methods.{refuses, unless}
 use Rattle.consensus.specs.Conditions.{Condition, condition_number, first_refusal, NoneHolds}
-use Rattle.consensus.specs.Step.{quiet, with_checks, with_seconds, take_first, on_first, is_full, take_second, count_check, checks_with, on_check, at_round}
-use Rattle.consensus.specs.Step.{close, count_second, seconds_with, on_second, on_kind, skip, caught_up, received}
+use Rattle.consensus.specs.Step.{quiet, with_checks, with_seconds, vote_first, take_first, on_first, is_full, vote_second, take_second, count_check}
+use Rattle.consensus.specs.Step.{checks_with, mark_check, on_check, at_round, close, count_second, seconds_with, on_second, on_kind, skip, caught_up, received}
 use Rattle.consensus.specs.declared.Answer.{Answer}
 use Rattle.consensus.specs.declared.Unit as U
 
@@ -33,18 +32,19 @@ module _ (P : Answer → Type 0) where
   pub record Branches (k : Kind) (u : U.Unit) (m : Message) : Type 0 where
     pub nothing : P (quiet u)
     pub first : k ≡ First → is_blank u.current.first ≡ true → P (take_first u m.proposal)
+    pub first_again : k ≡ First → is_blank u.current.first ≡ false → P (vote_first u)
     pub checks : k ≡ Check → is_blank u.current.second ≡ true → is_marked u.checks.marks m.sender ≡ false
         → P (count_check u (checks_with u m))
+    pub second_again : k ≡ Check → is_blank u.current.second ≡ false → P (vote_second u)
     pub seconds : k ≡ Second → is_marked u.seconds.marks m.sender ≡ false → P (count_second u (seconds_with u m))
 
   pub by_kind : (k : Kind) (u : U.Unit) (m : Message) → Branches k u m → P (on_kind k u m)
-  unfolding on_kind on_first on_check on_second
+  unfolding on_kind on_first mark_check on_check on_second
   by_kind Empty u m b = b.nothing
-  by_kind First u m b = by_test (is_blank u.current.first) (b.first refl) (λ e. b.nothing)
+  by_kind First u m b = by_test (is_blank u.current.first) (b.first refl) (b.first_again refl)
   by_kind Check u m b =
-      by_test (is_blank u.current.second && not (is_marked u.checks.marks m.sender))
-      (λ e. let p = and_parts _ _ e in b.checks refl p.0 (not-true _ p.1))
-      (λ e. b.nothing)
+      by_test (is_blank u.current.second) (λ e. by_test (is_marked u.checks.marks m.sender) (λ f. b.nothing) (b.checks refl e))
+      (b.second_again refl)
   by_kind Second u m b = by_test (is_marked u.seconds.marks m.sender) (λ e. b.nothing) (b.seconds refl)
   by_kind Skip u m b = b.nothing
 

@@ -2,7 +2,7 @@
 use Rattle.std.specs.Prelude.{Some, None}
 use Prim.Native.Nat.{ℕ, ◌+◌, ◌/◌, ◌≤◌, ◌<◌}
 use mathlib.Core.Path.{◌≡◌, refl}
-use mathlib.Core.Bool.{true, false, and-false}
+use mathlib.Core.Bool.{true, false}
 use mathlib.Core.List.{List, [], ◌∷◌}
 use native.Mathlib.Omega.{arith}
 use lib.Count.{ones}
@@ -24,9 +24,9 @@ use Rattle.contents.specs.declared.Settings.{Settings}
 use Rattle.contents.specs.declared.State.{State}
 use Rattle.consensus.specs.Methods.{refuses, unless, propose, propose_conditions, deliver, deliver_conditions, key_off, key_on}
 use Rattle.consensus.specs.Conditions.{Condition, first_refusal, NoneHolds}
-use Rattle.consensus.specs.Step.{says, log_write, at_round, send_first, proposed, take_first, on_first, is_full, take_second, count_check, checks_with}
-use Rattle.consensus.specs.Step.{on_check, decided, next_proposal, close, count_second, seconds_with, on_second, on_kind, skip, caught_up, received, fresh}
-use Rattle.consensus.specs.Step.{recovered}
+use Rattle.consensus.specs.Step.{says, log_write, at_round, fresh, recovered, send_first, proposed, vote_first, take_first, on_first, is_full, vote_second}
+use Rattle.consensus.specs.Step.{take_second, count_check, checks_with, mark_check, on_check, decided, next_proposal, close, count_second, seconds_with}
+use Rattle.consensus.specs.Step.{on_second, on_kind, skip, caught_up, received}
 use Rattle.consensus.specs.Units.{down_unit, at_log}
 use Rattle.consensus.specs.declared.Answer.{Answer}
 use Rattle.consensus.specs.declared.Power.{Power}
@@ -73,33 +73,41 @@ module _ (p : Power) (s : Settings) (logged now : State) (checks seconds : Tally
 
   pub first_b : s.engine ≡ B → now.first ≡ Blank
       → on_kind First u m ≡ answer (unit p s taken taken checks seconds) (message s Check everyone now.round m.proposal m.proposal) Blank
-  unfolding on_kind on_first take_first log_write says
+  unfolding on_kind on_first take_first vote_first log_write says
   first_b g h = rw (h, g)
 
   pub first_r : s.engine ≡ R → now.first ≡ Blank
       → on_kind First u m ≡ answer (unit p s taken taken checks seconds) (message s Second everyone now.round m.proposal now.proposal) Blank
-  unfolding on_kind on_first take_first log_write says
+  unfolding on_kind on_first take_first vote_first log_write says
   first_r g h = rw (h, g)
 
-  pub first_there : is_blank now.first ≡ false → on_kind First u m ≡ answer u nothing Blank
-  unfolding on_kind on_first
-  first_there h = rw h
+  -- again: the unit's own estimate, and the unit as it was
+  pub first_again_b : s.engine ≡ B → is_blank now.first ≡ false
+      → on_kind First u m ≡ answer u (message s Check everyone now.round now.first now.first) Blank
+  unfolding on_kind on_first vote_first says
+  first_again_b g h = rw (h, g)
+
+  pub first_again_r : s.engine ≡ R → is_blank now.first ≡ false
+      → on_kind First u m ≡ answer u (message s Second everyone now.round now.first now.proposal) Blank
+  unfolding on_kind on_first vote_first says
+  first_again_r g h = rw (h, g)
 
   -- CHECK
-  pub check_second_there : is_blank now.second ≡ false → on_kind Check u m ≡ answer u nothing Blank
-  unfolding on_kind on_check
-  check_second_there h = rw h
+  pub check_again : is_blank now.second ≡ false
+      → on_kind Check u m ≡ answer u (message s Second everyone now.round now.second now.proposal) Blank
+  unfolding on_kind on_check vote_second says
+  check_again h = rw h
 
-  pub check_marked : is_marked checks.marks m.sender ≡ true → on_kind Check u m ≡ answer u nothing Blank
-  unfolding on_kind on_check
-  check_marked h = rw (h, and-false (is_blank now.second))
+  pub check_marked : now.second ≡ Blank → is_marked checks.marks m.sender ≡ true → on_kind Check u m ≡ answer u nothing Blank
+  unfolding on_kind on_check mark_check
+  check_marked blank h = rw (blank, h)
 
   module _ (blank : now.second ≡ Blank) (unmarked : is_marked checks.marks m.sender ≡ false) where
     abbrev t : Tally
     t = mark checks m.sender m.estimate
 
     pub check_short : ones t.marks < quorum_of s.engine s.n → on_kind Check u m ≡ answer (unit p s logged now t seconds) nothing Blank
-    unfolding on_kind on_check count_check checks_with is_full
+    unfolding on_kind on_check mark_check count_check checks_with is_full
     check_short h = rw (blank, unmarked, lt-leb (quorum_of s.engine s.n) (ones t.marks) h)
 
     abbrev set : State
@@ -108,7 +116,7 @@ module _ (p : Power) (s : Settings) (logged now : State) (checks seconds : Tally
     pub check_quorum : quorum_of s.engine s.n ≤ ones t.marks
         → on_kind Check u m
         ≡ answer (unit p s set set no_marks seconds) (message s Second everyone now.round (common (gathered t)) now.proposal) Blank
-    unfolding on_kind on_check count_check checks_with is_full take_second log_write says
+    unfolding on_kind on_check mark_check count_check checks_with is_full take_second vote_second log_write says
     check_quorum h = rw (blank, unmarked, le-leb (quorum_of s.engine s.n) (ones t.marks) h)
 
   -- SECOND

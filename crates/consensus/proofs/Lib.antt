@@ -1,6 +1,7 @@
 pub mod Order
 pub mod Branches
 pub mod Laws
+pub mod Repeats
 pub mod Stays
 pub mod Answers
 pub mod Full

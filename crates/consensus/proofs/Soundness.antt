@@ -42,8 +42,8 @@ use Rattle.consensus.specs.Methods.{key_off, key_on}
 use Rattle.consensus.specs.Conditions.{condition, NoneHolds}
 use Rattle.consensus.specs.Sound.{From, Sound}
 use Rattle.consensus.specs.Step.{quiet, sends, says, with_current, with_proposal, with_first, with_second, with_checks, with_seconds, log_write, at_round}
-use Rattle.consensus.specs.Step.{clean, fresh, recovered, or_if_blank, send_first, proposed, vote_kind, vote_proposal, take_first, is_full, take_second}
-use Rattle.consensus.specs.Step.{checks_with, seconds_with, close, on_kind, skip, received}
+use Rattle.consensus.specs.Step.{clean, fresh, recovered, or_if_blank, send_first, proposed, vote_kind, vote_proposal, vote_first}
+use Rattle.consensus.specs.Step.{take_first, is_full, vote_second, take_second, checks_with, seconds_with, close, on_kind, skip, received}
 use Rattle.consensus.specs.Units.{WellFormed, unit_log, down_unit, at_log}
 use Rattle.consensus.specs.declared.Power.{Power}
 use Rattle.consensus.specs.declared.Power.TheVariants.{Down, Up}
@@ -97,6 +97,22 @@ module _ (l : Limits) where
   vote_ok v B e own q h o = and_both (ap is_b q) (first_ok_lem v Check e h)
   vote_ok v R e own q h o = second_ok_lem v e own (or_first _ h) o
 
+-- an estimate of a state that is not blank
+filled_first : (l : Limits) (e : Estimate) → mileage_or_blank l e ≡ true → is_blank e ≡ false → is_mileage l e ≡ true
+unfolding mileage_or_blank
+filled_first l Blank h n = never (sym n)
+filled_first l Split h n = never h
+filled_first l (Mileage v) h n = or_left (in_range l v) false h refl
+
+filled_second : (l : Limits) (g : Engine) (e : Estimate) → second_estimate_ok l g e ≡ true → is_blank e ≡ false → mileage_or_split l g e ≡ true
+unfolding second_estimate_ok mileage_or_split
+filled_second l B Blank h n = never (sym n)
+filled_second l B Split h n = h
+filled_second l B (Mileage v) h n = or_first _ (or_left (in_range l v) false h refl)
+filled_second l R Blank h n = never (sym n)
+filled_second l R Split h n = never h
+filled_second l R (Mileage v) h n = never h
+
 -- ---- what delivering to u is given
 
 record ForThisUnit (l : Limits) (s : Settings) (m : Message) : Type 0 where
@@ -118,15 +134,26 @@ given l s m ok for =
       kind = λ k e. subst (λ (x : Kind). kind_ok l x m ≡ true) e f.kind;
     }
 
--- ---- the step by kind, of a unit v that u is or has become
+-- ---- votes, of a unit v that u is or has become
+
+module _ (l : Limits) (u v : U.Unit) (same : v.settings ≡ u.settings) (p : Parts l v) where
+  vote_first_sound : is_mileage l v.current.first ≡ true → Sound l u (vote_first v)
+  unfolding vote_first
+  vote_first_sound h =
+      sound_sends l u v same p _ everyone _ _ (vote_ok l v v.settings.engine v.current.first v.current.proposal refl h p.states.current.proposal)
+
+  vote_second_sound : mileage_or_split l v.settings.engine v.current.second ≡ true → Sound l u (vote_second v)
+  unfolding vote_second
+  vote_second_sound h = sound_sends l u v same p Second everyone _ _ (second_ok_lem l v v.current.second _ h p.states.current.proposal)
+
+-- ---- the step by kind, of such a unit
 
 module _ (l : Limits) (u v : U.Unit) (m : Message) (same : v.settings ≡ u.settings) (p : Parts l v) (i : ForThisUnit l v.settings m) where
   first_sound : m.kind ≡ First → Sound l u (take_first v m.proposal)
   unfolding take_first log_write kind_ok
   first_sound k =
-      sound_sends l u next same
-      (record { settings = p.settings; states = states_same l _ _ state; checks = p.checks; seconds = p.seconds; unchecked = p.unchecked })
-      _ everyone _ _ (vote_ok l next v.settings.engine m.proposal v.current.proposal refl mileage state.proposal)
+      vote_first_sound l u next same
+      (record { settings = p.settings; states = states_same l _ _ state; checks = p.checks; seconds = p.seconds; unchecked = p.unchecked }) mileage
     where
       next : U.Unit
       next = log_write v (with_first v.current m.proposal)
@@ -171,9 +198,9 @@ module _ (l : Limits) (u v : U.Unit) (m : Message) (same : v.settings ≡ u.sett
     check_full_sound : Sound l u (take_second v (common (gathered (checks_with v m))))
     unfolding take_second log_write checks_with second_estimate_ok mileage_or_split
     check_full_sound =
-        sound_sends l u (with_checks (log_write v (with_second v.current e)) no_marks) same
+        vote_second_sound l u (with_checks (log_write v (with_second v.current e)) no_marks) same
         (record { settings = p.settings; states = states_same l _ _ state; checks = none; seconds = p.seconds; unchecked = no_checks _ _ })
-        Second everyone _ _ (second_ok_lem l _ e _ (rw check_kind.0 vote) state.proposal)
+        (rw check_kind.0 vote)
       where
         none : WholeTally l false v.settings no_marks
         none = tallied_none l false v.settings p.settings
@@ -232,6 +259,8 @@ module _ (l : Limits) (u v : U.Unit) (m : Message) (same : v.settings ≡ u.sett
       (record {
         nothing = sound_quiet l u v same p;
         first = λ k _. first_sound k;
+        first_again = λ _ there. vote_first_sound l u v same p (filled_first l v.current.first p.states.current.first there);
+        second_again = λ _ there. vote_second_sound l u v same p (filled_second l v.settings.engine v.current.second p.states.current.second there);
         checks = λ k b _. by_check (Sound l u) v (checks_with v m) (λ _. check_full_sound k b) (check_short_sound k b);
         seconds = λ k free. by_second (Sound l u) v (seconds_with v m) (λ h. close_sound k (last k free h)) (second_short_sound k);
       })

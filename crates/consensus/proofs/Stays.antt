@@ -15,7 +15,8 @@ use Rattle.contents.specs.Estimates.{is_blank}
 use Rattle.contents.specs.declared.Kind.{Kind}
 use Rattle.contents.specs.declared.Message.{Message}
 use Rattle.contents.specs.declared.State.{State}
-use Rattle.consensus.specs.Step.{log_write, at_round, take_first, take_second, checks_with, seconds_with, close, on_kind, skip, caught_up, received}
+use Rattle.consensus.specs.Step.{log_write, at_round, vote_first, take_first, vote_second, take_second, checks_with, seconds_with, close, on_kind, skip}
+use Rattle.consensus.specs.Step.{caught_up, received}
 use Rattle.consensus.specs.declared.Answer.{Answer}
 use Rattle.consensus.specs.declared.Unit as U
 use Rattle.consensus.proofs.Branches.{by_kind, by_check, by_second, by_round}
@@ -42,13 +43,15 @@ abbrev StaysTo : U.Unit → Answer → Type 0
 StaysTo u a = Stays u.current a.unit.current
 
 stays_kind : (k : Kind) (u : U.Unit) (m : Message) → StaysTo u (on_kind k u m)
-unfolding take_first take_second close log_write at_round
+unfolding vote_first take_first vote_second take_second close log_write at_round
 stays_kind k u m =
     by_kind (StaysTo u) k u m
     (record {
       nothing = same;
       first = λ _ h. record { round = omega arith; estimates = λ e. (was_blank _ _ h, λ n. refl) };
+      first_again = λ _ _. same;
       checks = λ _ h _. by_check (StaysTo u) u _ (λ _. record { round = omega arith; estimates = λ e. (λ n. refl, was_blank _ _ h) }) (λ _. same);
+      second_again = λ _ _. same;
       seconds = λ _ _. by_second (StaysTo u) u _ (λ _. stays_risen _ _ (omega arith)) (λ _. same);
     })
   where
@@ -100,14 +103,16 @@ pub tallies_same : (u : U.Unit) → TalliesStay u u
 tallies_same u e = (same_held u.checks, same_held u.seconds)
 
 tallies_kind : (k : Kind) (u : U.Unit) (m : Message) → TalliesTo u (on_kind k u m)
-unfolding take_first take_second checks_with seconds_with close log_write at_round
+unfolding vote_first take_first vote_second take_second checks_with seconds_with close log_write at_round
 tallies_kind k u m =
     by_kind (TalliesTo u) k u m
     (record {
       nothing = tallies_same u;
       first = λ _ _. tallies_same u;
+      first_again = λ _ _. tallies_same u;
       checks = λ _ _ new. by_check (TalliesTo u) u _ (λ _ e. (held_cleared u.checks, same_held u.seconds))
           (λ _ e. (held_marked u.checks m.sender m.estimate new, same_held u.seconds));
+      second_again = λ _ _. tallies_same u;
       seconds = λ _ new. by_second (TalliesTo u) u _ (λ _ e. absurd (omega arith))
           (λ _ e. (same_held u.checks, held_marked u.seconds m.sender m.estimate new));
     })

@@ -1,6 +1,6 @@
 -- The step of both engines: Algorithm 1 (B) and Algorithm 2 (R) of the source, with their line numbers; lines 1 to 26 are numbered alike in both.
 -- The scope paper's five readings of the source are named where they act. Assumes nothing.
-use Rattle.std.specs.Prelude.{ℕ, ◌+◌, Bool, not, cond, ◌&&◌, leb, ltb, None}
+use Rattle.std.specs.Prelude.{ℕ, ◌+◌, Bool, cond, leb, ltb, None}
 use Rattle.std.specs.Int.Count.{ones}
 use Rattle.tally.specs.Gathered.{common, lowest, majority}
 use Rattle.tally.specs.Limits.{everyone}
@@ -113,7 +113,7 @@ proposed u v = send_first u (or_if_blank u.current.proposal (Mileage v))
 
 -- ---- lines 22 to 26: FIRST
 
--- line 26: B sends CHECK with the estimate, R sends SECOND with it and the unit's proposal
+-- line 26: B sends CHECK with the estimate, which is its proposal too; R sends SECOND with it and the proposal that the unit now holds
 abbrev pub vote_kind : Engine → Kind
 vote_kind B = Check
 vote_kind R = Second
@@ -122,15 +122,17 @@ abbrev pub vote_proposal : Engine → Estimate → Estimate → Estimate
 vote_proposal B e own = e
 vote_proposal R e own = own
 
--- lines 24 to 26: the first estimate becomes the proposal received; log
-unfoldable pub take_first : U.Unit → Estimate → Answer
-take_first u e =
-    sends (log_write u (with_first u.current e)) (vote_kind u.settings.engine) everyone e
-    (vote_proposal u.settings.engine e u.current.proposal)
+unfoldable pub vote_first : U.Unit → Answer
+vote_first u =
+    sends u (vote_kind u.settings.engine) everyone u.current.first (vote_proposal u.settings.engine u.current.first u.current.proposal)
 
--- line 23
+-- lines 24 to 26: the first estimate becomes the proposal received; log; the vote goes out
+unfoldable pub take_first : U.Unit → Estimate → Answer
+take_first u e = vote_first (log_write u (with_first u.current e))
+
+-- line 23. Where a first estimate is there its vote goes out again (request 2, not in the source); log and image stay
 unfoldable pub on_first : U.Unit → Message → Answer
-on_first u m = cond (is_blank u.current.first) (take_first u m.proposal) (quiet u)
+on_first u m = cond (is_blank u.current.first) (take_first u m.proposal) (vote_first u)
 
 -- ---- B 27 to 35: CHECK
 
@@ -139,10 +141,13 @@ on_first u m = cond (is_blank u.current.first) (take_first u m.proposal) (quiet 
 unfoldable pub is_full : U.Unit → Tally → Bool
 is_full u t = leb (quorum_of u.settings.engine u.settings.n) (ones t.marks)
 
--- B 34 and 35, whether common or split: log; SECOND goes out with the estimate and the unit's proposal. That CHECK marks are cleared is the
--- scope paper's
+-- B 35: SECOND goes out with the second estimate, a mileage or split, and the proposal that the unit now holds
+unfoldable pub vote_second : U.Unit → Answer
+vote_second u = sends u Second everyone u.current.second u.current.proposal
+
+-- B 34 and 35, whether common or split: log; the vote goes out. That CHECK marks are cleared is the scope paper's
 unfoldable pub take_second : U.Unit → Estimate → Answer
-take_second u e = sends (with_checks (log_write u (with_second u.current e)) no_marks) Second everyone e u.current.proposal
+take_second u e = vote_second (with_checks (log_write u (with_second u.current e)) no_marks)
 
 -- B 29 to 33: at the quorum the common mileage, or split if they differ
 unfoldable pub count_check : U.Unit → Tally → Answer
@@ -152,10 +157,14 @@ count_check u t = cond (is_full u t) (take_second u (common (gathered t))) (quie
 unfoldable pub checks_with : U.Unit → Message → Tally
 checks_with u m = mark u.checks m.sender m.estimate
 
--- the second estimate is set only where it is blank (reading 2), and a marked sender adds nothing (reading 1)
+-- where the second estimate is blank; a marked sender adds nothing (reading 1)
+unfoldable pub mark_check : U.Unit → Message → Answer
+mark_check u m = cond (is_marked u.checks.marks m.sender) (quiet u) (count_check u (checks_with u m))
+
+-- the second estimate is set only where it is blank (reading 2). Where it is there its vote goes out again (request 2, not in the source); log and
+-- image stay
 unfoldable pub on_check : U.Unit → Message → Answer
-on_check u m =
-    cond (is_blank u.current.second && not (is_marked u.checks.marks m.sender)) (count_check u (checks_with u m)) (quiet u)
+on_check u m = cond (is_blank u.current.second) (mark_check u m) (vote_second u)
 
 -- ---- B 37 to 46, R 28 to 33: SECOND
 

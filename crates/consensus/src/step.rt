@@ -7,7 +7,8 @@ ghost use Rattle.tally.specs.Quorum.{quorum_of};
 ghost use Rattle.contents.specs.Messages.{message_ok};
 ghost use Rattle.tally.specs.Tally.{mark};
 ghost use Rattle.consensus.specs.Step.{gives, quiet, says, sends, log_write, clean, at_round, fresh, recovered};
-ghost use Rattle.consensus.specs.Step.{or_if_blank, send_first, proposed, vote_kind, vote_proposal, take_first, on_first, take_second, count_check, on_check};
+ghost use Rattle.consensus.specs.Step.{or_if_blank, send_first, proposed, vote_kind, vote_proposal, vote_first, take_first, on_first};
+ghost use Rattle.consensus.specs.Step.{vote_second, take_second, count_check, mark_check, on_check};
 ghost use Rattle.consensus.specs.Step.{decided, next_proposal, close, count_second, on_second, on_kind, skip, caught_up, received};
 
 use super::{Answer, Power, Unit};
@@ -242,48 +243,70 @@ impl Unit {
     }
 
     // ---- FIRST
-    // The first estimate becomes the proposal received; log; B sends CHECK, R sends SECOND.
-    #[tactic(auto, unfolding(crate::specs::Step::take_first))]
-    fn take_first(&mut self, e: Estimate) -> Said
-        ensures { gives self.new result.message result.decision ≡ take_first self.old e }
+    // The vote of the first estimate goes out: B sends CHECK, R sends SECOND with the proposal that the unit now holds.
+    #[tactic(auto, unfolding(crate::specs::Step::vote_first))]
+    fn vote_first(&self) -> Said
+        ensures { gives self.now result.message result.decision ≡ vote_first self.now }
     {
         let engine = self.settings.engine;
-        let own = self.current.proposal;
-        self.log_write(State {
-            first: e,
-            ..self.current
-        });
+        let e = self.current.first;
         self.sends(
             vote_kind(engine),
             limits::EVERYONE,
             e,
-            vote_proposal(engine, e, own),
+            vote_proposal(engine, e, self.current.proposal),
         )
     }
 
+    // The first estimate becomes the proposal received; log; the vote goes out.
+    #[tactic(auto, unfolding(crate::specs::Step::take_first))]
+    fn take_first(&mut self, e: Estimate) -> Said
+        ensures { gives self.new result.message result.decision ≡ take_first self.old e }
+    {
+        self.log_write(State {
+            first: e,
+            ..self.current
+        });
+        self.vote_first()
+    }
+
+    // Where a first estimate is there its vote goes out again.
     #[tactic(auto, unfolding(crate::specs::Step::on_first))]
     fn on_first(&mut self, m: Message) -> Said
         ensures { gives self.new result.message result.decision ≡ on_first self.old m }
     {
         if estimates::is_blank(self.current.first) {
-            return self.take_first(m.proposal);
+            self.take_first(m.proposal)
+        } else {
+            self.vote_first()
         }
-        NOTHING
     }
 
     // ---- CHECK
-    // The second estimate is set; log; CHECK marks are cleared; SECOND goes out.
+    // The vote of the second estimate goes out: SECOND, with the proposal that the unit now holds.
+    #[tactic(auto, unfolding(crate::specs::Step::vote_second))]
+    fn vote_second(&self) -> Said
+        ensures { gives self.now result.message result.decision ≡ vote_second self.now }
+    {
+        self.sends(
+            Kind::Second,
+            limits::EVERYONE,
+            self.current.second,
+            self.current.proposal,
+        )
+    }
+
+    // The second estimate is set; log; CHECK marks are cleared; the vote goes out.
     #[tactic(auto, unfolding(crate::specs::Step::take_second))]
     fn take_second(&mut self, e: Estimate) -> Said
         ensures { gives self.new result.message result.decision ≡ take_second self.old e }
     {
-        let own = self.current.proposal;
         self.log_write(State {
             second: e,
             ..self.current
         });
         self.checks = Tally::empty();
-        self.sends(Kind::Second, limits::EVERYONE, e, own)
+        self.vote_second()
     }
 
     #[tactic(auto, unfolding(crate::specs::Step::count_check, crate::specs::Step::is_full))]
@@ -297,17 +320,27 @@ impl Unit {
         NOTHING
     }
 
-    #[tactic(auto, unfolding(crate::specs::Step::on_check, crate::specs::Step::checks_with))]
+    #[tactic(auto, unfolding(crate::specs::Step::mark_check, crate::specs::Step::checks_with))]
+    fn mark_check(&mut self, m: Checked) -> Said
+        ensures { gives self.new result.message result.decision ≡ mark_check self.old m.message }
+    {
+        if tally::is_marked(self.checks.marks, m.message.sender) {
+            return NOTHING;
+        }
+        let t = marked(&self.checks, m);
+        self.count_check(&t)
+    }
+
+    // Where a second estimate is there its vote goes out again.
+    #[tactic(auto, unfolding(crate::specs::Step::on_check))]
     fn on_check(&mut self, m: Checked) -> Said
         ensures { gives self.new result.message result.decision ≡ on_check self.old m.message }
     {
-        if estimates::is_blank(self.current.second)
-            & !tally::is_marked(self.checks.marks, m.message.sender)
-        {
-            let t = marked(&self.checks, m);
-            return self.count_check(&t);
+        if estimates::is_blank(self.current.second) {
+            self.mark_check(m)
+        } else {
+            self.vote_second()
         }
-        NOTHING
     }
 
     // ---- SECOND

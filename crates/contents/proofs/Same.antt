@@ -1,7 +1,7 @@
 -- Engines, estimates and settings that test the same are the same, and what a fit says. Assumes nothing.
 use Rattle.std.proofs.lemmas.Bool.{and_parts}
 use Prim.Native.Nat.{ℕ, ◌<◌}
-use mathlib.Core.Path.{◌≡◌, refl, sym, ap}
+use mathlib.Core.Path.{◌≡◌, refl, sym, ap, ◌∙◌}
 use mathlib.Core.Bool.{Bool, true, false, ◌&&◌, ◌||◌}
 use mathlib.Core.Logic.{◌⊎◌, inl, inr}
 use lib.Dec.{eqb, ltb}
@@ -70,6 +70,15 @@ abbrev pub Fits : State → State → Type 0
 Fits i s =
     ((s.round < i.round) × ((i.first ≡ Blank) × (i.second ≡ Blank)))
     ⊎ ((s.round ≡ i.round) × ((s.first ≡ i.first) × (s.second ≡ i.second)))
+
+-- so an estimate of the image that is not blank is the log's, in the same round
+pub first_fits : (i s : State) → Fits i s → is_blank i.first ≡ false → (s.round ≡ i.round) × (s.first ≡ i.first)
+first_fits i s (inl h) n = never (sym n ∙ ap is_blank h.1.0)
+first_fits i s (inr h) n = (h.0, h.1.0)
+
+pub second_fits : (i s : State) → Fits i s → is_blank i.second ≡ false → (s.round ≡ i.round) × (s.second ≡ i.second)
+second_fits i s (inl h) n = never (sym n ∙ ap is_blank h.1.1)
+second_fits i s (inr h) n = (h.0, h.1.1)
 
 pub state_fits_lem : (i s : State) → state_fits i s ≡ true → Fits i s
 unfolding state_fits

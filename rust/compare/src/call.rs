@@ -197,6 +197,14 @@ impl Call {
                 .all(|(at, (one, two))| Some(at) == own || one == two)
     }
 
+    /// Whether log, image and rows are the same in the other call.
+    pub fn has_unit_of(&self, other: &Call) -> bool {
+        [LOG, IMAGE]
+            .iter()
+            .all(|&at| self.bytes[at] == other.bytes[at])
+            && self.rows == other.rows
+    }
+
     pub fn decided(&self) -> Option<u32> {
         Some(self.decision[1]).filter(|&decision| decision != BLANK)
     }

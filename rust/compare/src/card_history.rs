@@ -1,4 +1,4 @@
-//! A history of cards being played: both sides go in step, and demand 3 is asked of each entry after every event.
+//! A history of cards being played: both sides go in step, and demand 3 is asked of each entry, and the votes sent, after every event.
 
 use crate::card_tally::CardTally;
 use crate::card_world::{Event, Setting, What, World};
@@ -7,6 +7,7 @@ use crate::format::{ACCEPTED, MAX_ROWS};
 use crate::side::Pair;
 use crate::trouble::{agreed, Trouble};
 use crate::unit_card::Stage;
+use crate::votes::Votes;
 use crate::world::Done;
 
 pub struct CardRun<'a> {
@@ -15,6 +16,7 @@ pub struct CardRun<'a> {
     pub world: World,
     /// One for each entry that a card can have.
     demands: Vec<Demand3>,
+    votes: Votes,
     pub events: Vec<Event>,
 }
 
@@ -25,6 +27,7 @@ impl<'a> CardRun<'a> {
             setting: setting.clone(),
             world: World::new(setting),
             demands: (0..MAX_ROWS).map(|_| Demand3::default()).collect(),
+            votes: Votes::default(),
             events: Vec::new(),
         }
     }
@@ -50,13 +53,22 @@ impl<'a> CardRun<'a> {
         let entry = self.world.entry(&event);
         let stage = entry.and_then(|entry| self.world.cards[event.unit as usize].stage(entry));
         let call = self.world.call(&event);
-        let answer = call.map(|call| agreed(self.pair, &call)).transpose()?;
+        let answer = call.as_ref().map(|call| agreed(self.pair, call));
+        let answer = answer.transpose()?;
         let done = self.world.apply(&event, answer.as_ref());
-        let number = answer.map(|answer| answer.number);
+        let number = answer.as_ref().map(|answer| answer.number);
         tally.unready += u64::from(number.is_some() && !done.taken && stage == Some(Stage::New));
         self.count(&event, number, &done, tally);
         self.demand(entry, &done)
             .map_err(|claim| Trouble::Claim(claim, None))?;
+        if let (What::Deliver(_) | What::Cut(_), true, Some(call), Some(answer)) =
+            (event.what, done.taken, &call, &answer)
+        {
+            let cut = matches!(event.what, What::Cut(_));
+            self.votes
+                .after(cut, call, answer, &mut tally.of.again)
+                .map_err(|claim| Trouble::Claim(claim, None))?;
+        }
         Ok(number)
     }
 

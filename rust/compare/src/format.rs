@@ -64,6 +64,7 @@ pub const LOG: Layout = &[
 pub const ENTRY: Field = LOG[3];
 pub const ROUND: Field = LOG[4];
 pub const PROPOSAL: Field = LOG[5];
+pub const FIRST_ESTIMATE: Field = LOG[6];
 pub const SECOND_ESTIMATE: Field = LOG[7];
 
 /// Kind, engine, n, sender, receiver, entry, round, estimate, proposal.
@@ -83,6 +84,7 @@ pub const RECEIVER: Field = MESSAGE[4];
 pub const MESSAGE_ENTRY: Field = MESSAGE[5];
 pub const MESSAGE_ROUND: Field = MESSAGE[6];
 pub const ESTIMATE: Field = MESSAGE[7];
+pub const MESSAGE_PROPOSAL: Field = MESSAGE[8];
 
 /// The marks of CHECKs and of SECONDs in an image.
 pub const CHECK_MARKS: Field = field(20, 2);

@@ -1,10 +1,11 @@
-//! A history being played: both sides go in step, and demand 3 is asked after every event.
+//! A history being played: both sides go in step, and demand 3 and the votes sent are asked after every event.
 
 use crate::call::{IMAGE, LOG};
 use crate::demand3::Demand3;
 use crate::format::{ACCEPTED, LAST_ROUND, MAX_UNITS, MIN_UNITS, NO_ROW};
 use crate::side::Pair;
 use crate::trouble::{agreed, Trouble};
+use crate::votes::{Again, Votes};
 use crate::world::{first_calls, Done, Event, Setting, What, World};
 
 /// What histories reached. `moved_on`: decisions while another unit was in a later round. `later`: decisions in another round than the
@@ -24,6 +25,7 @@ pub struct Tally {
     pub later: u64,
     pub greatest_round: u32,
     pub decided: [[u64; 17]; 2],
+    pub again: Again,
 }
 
 impl Tally {
@@ -34,7 +36,7 @@ impl Tally {
 
     /// What was reached, in words; or what is missing.
     pub fn summary(&self) -> Result<String, String> {
-        let counts = [
+        let mut counts = vec![
             ("decisions", self.decisions),
             ("decisions after another unit moved on", self.moved_on),
             ("decisions in a later round", self.later),
@@ -42,8 +44,10 @@ impl Tally {
             ("key-offs", self.key_offs),
             ("key-ons", self.key_ons),
             ("refused calls with arbitrary buffers", self.strays),
-            ("round 2", u64::from(self.greatest_round > 1)),
         ];
+        counts.extend(self.again.counts());
+        let words = in_words(&counts);
+        counts.push(("round 2", u64::from(self.greatest_round > 1)));
         let mut missing = missing(&counts);
         for n in MIN_UNITS as usize..=MAX_UNITS as usize {
             for (engine, counts) in ["B", "R"].iter().zip(&self.decided) {
@@ -60,12 +64,11 @@ impl Tally {
             self.greatest_round,
         );
         Ok(format!(
-            "{} histories, {decided} decide; {} events, {} calls, numbers 0 to 7: {:?}; greatest round {round}; {}",
+            "{} histories, {decided} decide; {} events, {} calls, numbers 0 to 7: {:?}; greatest round {round}; {words}",
             self.histories,
             self.events,
             self.calls,
-            self.unit_numbers(),
-            in_words(&counts[..7])
+            self.unit_numbers()
         ))
     }
 }
@@ -87,6 +90,7 @@ pub struct Run<'a> {
     pub setting: Setting,
     pub world: World,
     demand: Option<Demand3>,
+    votes: Votes,
     pub events: Vec<Event>,
 }
 
@@ -114,6 +118,7 @@ impl<'a> Run<'a> {
             setting: setting.clone(),
             world,
             demand,
+            votes: Votes::default(),
             events: Vec::new(),
         })
     }
@@ -140,13 +145,22 @@ impl<'a> Run<'a> {
         self.events.push(event);
         tally.events += 1;
         let call = self.world.call(&event);
-        let answer = call.map(|call| agreed(self.pair, &call)).transpose()?;
+        let answer = call.as_ref().map(|call| agreed(self.pair, call));
+        let answer = answer.transpose()?;
         let done = self.world.apply(&event, answer.as_ref());
-        let number = answer.map(|answer| answer.number);
+        let number = answer.as_ref().map(|answer| answer.number);
         self.count(&event, number, &done, tally);
         if let Some(demand) = &mut self.demand {
             demand
                 .after(&done, self.world.records())
+                .map_err(|claim| Trouble::Claim(claim, None))?;
+        }
+        if let (What::Deliver(_) | What::Cut(_), true, Some(call), Some(answer)) =
+            (event.what, done.taken, &call, &answer)
+        {
+            let cut = matches!(event.what, What::Cut(_));
+            self.votes
+                .after(cut, call, answer, &mut tally.again)
                 .map_err(|claim| Trouble::Claim(claim, None))?;
         }
         Ok(number)

@@ -1,6 +1,6 @@
 //! The last rounds: the number 7 and its neighbours, histories that begin near round 9,999, and one that climbs there from round 0.
 
-use crate::call::{Call, Entry, IMAGE, LOG, MESSAGE};
+use crate::call::{Call, Entry, IMAGE, LOG, MESSAGE, OUT};
 use crate::format::{image_of, log_of, message_of, put_mark, quorum};
 use crate::format::{
     ACCEPTED, BLANK, CHECK_MARKS, EVERYONE, LAST_ROUND, MAX_ROUND, MAX_UNITS, MIN_UNITS,
@@ -14,28 +14,32 @@ use crate::side::Pair;
 use crate::trouble::agreed;
 use crate::world::{Setting, What};
 
-/// A delivery near the last round: the unit's round and SECOND marks, counted from the quorum; the message's kind, round and estimate,
-/// and whether its sender is marked; the number wanted.
+/// A delivery near the last round: the unit's round, estimates and SECOND marks, counted from the quorum; the message's kind, round and
+/// estimate, and whether its sender is marked; the number wanted, and whether a CHECK or SECOND is.
 struct Row {
     name: &'static str,
     round: u32,
+    held: [u32; 2],
     short: u32,
     kind: u8,
     message_round: u32,
     estimate: u32,
     again: bool,
     number: u32,
+    votes: bool,
 }
 
 const CLOSING: Row = Row {
     name: "closes round 9,999",
     round: MAX_ROUND,
+    held: [BLANK, BLANK],
     short: 1,
     kind: b'S',
     message_round: MAX_ROUND,
     estimate: 5,
     again: false,
     number: LAST_ROUND,
+    votes: false,
 };
 
 fn rows() -> Vec<Row> {
@@ -79,11 +83,25 @@ fn rows() -> Vec<Row> {
         },
         Row {
             kind: b'F',
+            votes: true,
             ..near("FIRST at 9,999")
         },
         Row {
             kind: b'C',
+            votes: true,
             ..near("CHECK at 9,999")
+        },
+        Row {
+            kind: b'F',
+            held: [9, BLANK],
+            votes: true,
+            ..near("FIRST at 9,999 again")
+        },
+        Row {
+            kind: b'C',
+            held: [9, SPLIT],
+            votes: true,
+            ..near("CHECK at 9,999 again")
         },
         Row {
             kind: b'K',
@@ -98,12 +116,14 @@ fn row_call(row: &Row, engine: u8, n: u32) -> Option<Call> {
         return None;
     }
     let quorum = quorum(engine, n);
-    let record = [engine.into(), n, 1, 7, row.round, 5, BLANK, BLANK];
+    let [first, second] = row.held;
+    let record = [engine.into(), n, 1, 7, row.round, 5, first, second];
     let mut image = image_of(record);
     for unit in 0..quorum - row.short {
         put_mark(&mut image, SECOND_MARKS, unit, 5);
     }
-    for unit in 0..if engine == b'B' { quorum - 1 } else { 0 } {
+    let gathers = engine == b'B' && second == BLANK;
+    for unit in 0..if gathers { quorum - 1 } else { 0 } {
         put_mark(&mut image, CHECK_MARKS, unit, 5);
     }
     let sender = if row.again { 0 } else { quorum - 1 };
@@ -143,10 +163,11 @@ fn neighbours(pair: &Pair) -> Result<u64, String> {
             };
             let answer = agreed(pair, &call)
                 .map_err(|trouble| format!("FAILED, {}: {trouble}", row.name))?;
-            if answer.number != row.number {
+            let votes = matches!(answer.after.bytes[OUT].slice()[0], b'C' | b'S');
+            if (answer.number, votes) != (row.number, row.votes) {
                 return Err(format!(
-                    "FAILED, {}: {} wanted, {} given\n  {call}",
-                    row.name, row.number, answer.number
+                    "FAILED, {}: {} wanted, {} given; a CHECK or SECOND: {} wanted, {votes} given\n  {call}",
+                    row.name, row.number, answer.number, row.votes
                 ));
             }
             count += 1;
@@ -177,10 +198,10 @@ fn histories(pair: &Pair, count: u64, random: &mut Random) -> Result<Tally, Stri
     for _ in 0..count {
         histories::one(pair, &late_setting(random), random, &mut tally)?;
     }
-    let seven = tally.numbers[LAST_ROUND as usize];
-    if seven == 0 || tally.greatest_round != MAX_ROUND || tally.decisions == 0 {
+    let (seven, again) = (tally.numbers[LAST_ROUND as usize], tally.again.last);
+    if seven == 0 || again == 0 || tally.greatest_round != MAX_ROUND || tally.decisions == 0 {
         return Err(format!(
-            "never reached: 7 {seven}, greatest round {}, decisions {}",
+            "never reached: 7 {seven}, greatest round {}, votes sent again in round 9,999 {again}, decisions {}",
             tally.greatest_round, tally.decisions
         ));
     }
@@ -252,10 +273,12 @@ pub fn run(pair: &Pair, count: u64, random: &mut Random) -> Result<String, Strin
         .map(|tally| tally.calls)
         .sum();
     Ok(format!(
-        "{rows} neighbours of 7; {} histories near round 9,999, {} calls, numbers 0 to 7: {:?}, decisions {}; two climbs from round 0, {calls} calls",
+        "{rows} neighbours of 7; {} histories near round 9,999, {} calls, numbers 0 to 7: {:?}, decisions {}, \
+         votes sent again in round 9,999 {}; two climbs from round 0, {calls} calls",
         near.histories,
         near.calls,
         near.unit_numbers(),
-        near.decisions
+        near.decisions,
+        near.again.last
     ))
 }

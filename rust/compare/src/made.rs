@@ -1,32 +1,32 @@
 //! The ways to make a script that means something.
 
 use crate::listed::{one_of, BAD_LINES};
-use crate::play::{Play, PLACES};
+use crate::play::{Play, Seen, PLACES};
 use crate::random::Random;
 
-/// A way to make a script: its text, and how many decisions came in a round above 0.
-pub type Make = fn(&mut Random) -> (Vec<u8>, u64);
+/// A way to make a script: its text, and what it does as far as it is played along.
+pub type Make = fn(&mut Random) -> (Vec<u8>, Seen);
 
-fn played(n: u32, random: &mut Random, how: impl Fn(&mut Play)) -> (Vec<u8>, u64) {
+fn played(n: u32, random: &mut Random, how: impl Fn(&mut Play)) -> (Vec<u8>, Seen) {
     let mut play = Play::begin(n, random);
     how(&mut play);
-    (play.text, play.later)
+    (play.text, play.seen)
 }
 
-pub fn any(random: &mut Random) -> (Vec<u8>, u64) {
+pub fn any(random: &mut Random) -> (Vec<u8>, Seen) {
     let n = 3 + random.below(14);
     let count = 10 + random.below(50 * n);
     played(n, random, |play| play.moves(count))
 }
 
 /// Rounds one after the other, each with rivals of their own mileages, so that many split and later ones close.
-pub fn rivals(random: &mut Random) -> (Vec<u8>, u64) {
+pub fn rivals(random: &mut Random) -> (Vec<u8>, Seen) {
     let (n, count) = (3 + random.below(14), 2 + random.below(3));
     played(n, random, |play| play.rounds(count))
 }
 
 /// A play broken off anywhere; then it is seen what the units hold.
-pub fn probed(random: &mut Random) -> (Vec<u8>, u64) {
+pub fn probed(random: &mut Random) -> (Vec<u8>, Seen) {
     let n = 3 + random.below(4);
     played(n, random, |play| {
         play.most_lines = 5 + play.random.index(20 * n as usize);
@@ -50,13 +50,13 @@ pub fn probed(random: &mut Random) -> (Vec<u8>, u64) {
 }
 
 /// Short, and with few units.
-pub fn short(random: &mut Random) -> (Vec<u8>, u64) {
+pub fn short(random: &mut Random) -> (Vec<u8>, Seen) {
     let (n, count) = (3 + random.below(3), random.below(50));
     played(n, random, |play| play.moves(count))
 }
 
 /// Until all places are full, and on for a while.
-pub fn full(random: &mut Random) -> (Vec<u8>, u64) {
+pub fn full(random: &mut Random) -> (Vec<u8>, Seen) {
     let n = 3 + random.below(14);
     played(n, random, |play| {
         play.proposals = play.proposals.max(20);
@@ -90,7 +90,7 @@ pub fn longest(random: &mut Random) -> Vec<u8> {
 }
 
 /// Malformed lines between good ones.
-pub fn bad_lines(random: &mut Random) -> (Vec<u8>, u64) {
+pub fn bad_lines(random: &mut Random) -> (Vec<u8>, Seen) {
     played(3, random, |play| {
         play.slips = 0;
         for _ in 0..5 + play.random.below(40) {

@@ -1,14 +1,33 @@
 //! Scripts that mean something, made by playing them along: which messages there are, who is down, who heard what.
 
 use crate::call::{IMAGE, LOG};
-use crate::format::{get, EVERYONE, MAX_ENTRY, MAX_MILEAGE, MIN_ENTRY, RECEIVER};
-use crate::listed::{one_of, BAD_LINES};
+use crate::format::{get, BLANK, EVERYONE, MAX_ENTRY, MAX_MILEAGE, MIN_ENTRY};
+use crate::format::{FIRST_ESTIMATE, MESSAGE_ROUND, RECEIVER, ROUND, SECOND_ESTIMATE};
 use crate::random::Random;
 use crate::side::INDEPENDENT;
+use crate::votes::is_again;
 use crate::world::{first_calls, Event, Setting, What, World};
 
 /// Message places on the bench.
 pub const PLACES: usize = 128;
+
+/// What a script does: decisions in a round above 0; votes sent again, those cut, and those refused as all places are full.
+#[derive(Default, Clone, Copy)]
+pub struct Seen {
+    pub later: u64,
+    pub again: u64,
+    pub cut: u64,
+    pub crowded: u64,
+}
+
+impl Seen {
+    pub fn add(&mut self, other: &Seen) {
+        self.later += other.later;
+        self.again += other.again;
+        self.cut += other.cut;
+        self.crowded += other.crowded;
+    }
+}
 
 /// A script being made and the bench as it leaves it; what each unit heard; how often things happen, in a thousand.
 pub struct Play<'a> {
@@ -24,10 +43,11 @@ pub struct Play<'a> {
     pub cuts: u32,
     pub proposals: u32,
     pub slips: u32,
+    /// How often a unit hears what only has it send a vote again.
+    pub again: u32,
     /// A unit that hears nothing in stages; n for none.
     pub deaf: u32,
-    /// Decisions in a round above 0.
-    pub later: u64,
+    pub seen: Seen,
 }
 
 fn new_mileage(random: &mut Random) -> u32 {
@@ -80,8 +100,9 @@ impl<'a> Play<'a> {
             cuts: random.one_of(&[0, 0, 20, 80]),
             proposals: random.one_of(&[0, 5, 20, 60]),
             slips: random.one_of(&[0, 20, 20, 150]),
+            again: random.one_of(&[1000, 1000, 200, 0]),
             deaf: n,
-            later: 0,
+            seen: Seen::default(),
             random,
         };
         for _ in 0..1 + play.random.below(3) {
@@ -143,9 +164,18 @@ impl<'a> Play<'a> {
             unit,
             what,
         };
-        let answer = self.world.call(&event).map(|call| call.on(&INDEPENDENT));
+        let call = self.world.call(&event);
+        let answer = call.as_ref().map(|call| call.on(&INDEPENDENT));
         let done = self.world.apply(&event, answer.as_ref());
-        self.later += u64::from(done.decided.is_some_and(|(_, round)| round > 0));
+        self.seen.later += u64::from(done.decided.is_some_and(|(_, round)| round > 0));
+        let vote = call
+            .zip(answer)
+            .is_some_and(|(call, answer)| is_again(&call, &answer));
+        if vote {
+            self.seen.cut += u64::from(letter == b'W');
+            self.seen.again += u64::from(letter == b'D' && done.taken);
+            self.seen.crowded += u64::from(!done.taken);
+        }
         if letter == b'D' && done.taken {
             self.heard[unit as usize][operand as usize] = true;
         }
@@ -164,12 +194,26 @@ impl<'a> Play<'a> {
         self.line(b'P', unit, mileage);
     }
 
+    /// Whether a message would only have a unit send a vote again.
+    pub fn only_again(&self, unit: u32, message: u32) -> bool {
+        let image = &self.world.units[unit as usize].image;
+        let sent = &self.world.sent[message as usize].bytes;
+        let held = match sent[0] {
+            b'F' => FIRST_ESTIMATE,
+            b'C' => SECOND_ESTIMATE,
+            _ => return false,
+        };
+        get(sent, MESSAGE_ROUND) == get(image, ROUND) && get(image, held) != BLANK
+    }
+
     /// A message for this unit that it has not heard, the oldest or any.
     fn unheard(&mut self, unit: u32) -> Option<u32> {
+        let again = self.in_thousand(self.again);
         let heard = &self.heard[unit as usize];
         let for_unit = |bytes: &[u8]| [EVERYONE, unit].contains(&get(bytes, RECEIVER));
         let found: Vec<u32> = (0..self.kept())
             .filter(|&at| !heard[at as usize] && for_unit(&self.world.sent[at as usize].bytes))
+            .filter(|&at| again || !self.only_again(unit, at))
             .collect();
         match found.first() {
             Some(&oldest) if self.random.chance(self.in_order, 1000) => Some(oldest),
@@ -195,87 +239,6 @@ impl<'a> Play<'a> {
                 self.line(b'D', unit, message);
             }
             None => {}
-        }
-    }
-
-    /// A SKIP delivered to another unit than its receiver, if one was sent.
-    fn misdirect(&mut self, letter: u8) {
-        let skips: Vec<u32> = (0..self.kept())
-            .filter(|&at| self.world.sent[at as usize].bytes[0] == b'K')
-            .collect();
-        if !skips.is_empty() {
-            let message = self.random.one_of(&skips);
-            let other = (get(&self.world.sent[message as usize].bytes, RECEIVER) + 1) % self.n();
-            self.line(letter, other, message);
-        }
-    }
-
-    /// A unit number that is too large: there is no such unit.
-    fn slip_unit(&mut self) {
-        let n = self.n();
-        let unit = self
-            .random
-            .one_of(&[n, n + 1, 16, 255, 256, 65536, u32::MAX]);
-        let letter = self.random.one_of(b"PDWKU") as char;
-        let line = if self.random.chance(1, 2) {
-            format!("{letter},{unit}")
-        } else {
-            format!("{letter},{unit},0")
-        };
-        self.text(line.as_bytes());
-    }
-
-    /// Something a careless hand would write.
-    fn slip(&mut self) {
-        let (unit, kept) = (self.unit(), self.kept());
-        let letter = self.random.one_of(b"DDW");
-        match self.random.below(9) {
-            0 => {
-                let beyond = kept + self.random.below(3) * self.random.below(200);
-                self.line(letter, unit, beyond);
-            }
-            1 => {
-                let key = self.random.one_of(b"KU");
-                self.line(key, unit, 0);
-            }
-            2 => {
-                let line = one_of(BAD_LINES, self.random);
-                self.text(line);
-            }
-            3 => self.slip_unit(),
-            4 | 5 => self.misdirect(letter),
-            6 if kept > 0 => {
-                let message = self.random.below(kept);
-                self.line(letter, unit, message);
-            }
-            _ => {
-                let number = self.random.one_of(&[
-                    10_000_000,
-                    10_000_001,
-                    4_294_967_293,
-                    4_294_967_294,
-                    u32::MAX,
-                    16_777_216,
-                    2_147_483_648,
-                ]);
-                let letter = self.random.one_of(b"PDW");
-                self.line(letter, unit, number);
-            }
-        }
-    }
-
-    /// A unit that is down is mostly keyed on, and sometimes used as if it were up.
-    fn meet_down_unit(&mut self, unit: u32) {
-        let kept = self.kept();
-        match self.random.below(12) {
-            0 => self.line(b'K', unit, 0),
-            1 => self.propose_new(unit),
-            2 => {
-                let message = self.random.below(kept + 2);
-                self.line(b'D', unit, message);
-            }
-            3..=6 => {}
-            _ => self.line(b'U', unit, 0),
         }
     }
 

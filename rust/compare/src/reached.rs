@@ -1,21 +1,23 @@
 //! What calls reached: each number of each entry; and of accepted deliveries engine, kind, round and effect.
 
-use crate::call::{Answer, Call, Entry, IMAGE, MESSAGE, OUT};
+use crate::call::{Answer, Call, Entry, IMAGE, LOG, MESSAGE, OUT};
 use crate::format::{
-    get, is_marked, marks_of, ACCEPTED, BLANK, ESTIMATE, IMAGE_LENGTH, MESSAGE_ROUND, NO_ROW,
-    PROPOSAL, ROUND, SECOND_MARKS, SENDER, SPLIT,
+    get, is_marked, marks_of, ACCEPTED, BLANK, ESTIMATE, IMAGE_LENGTH, LOG_LENGTH,
+    MESSAGE_PROPOSAL, MESSAGE_ROUND, NO_ROW, PROPOSAL, ROUND, SECOND_ESTIMATE, SECOND_MARKS,
+    SENDER, SPLIT,
 };
 use crate::rows;
 use std::collections::BTreeMap;
 use std::fmt::Write;
 
-/// Engine, kind, round below, at or above the unit's, effect. Effects: n none as marked, N none as set, m mark, w log and message,
+/// Engine, kind, round below, at or above the unit's, effect. Effects: n none as marked, N none as SKIP, m mark, w log and message,
 /// W the same with split, k SKIP, d decision; of a round closed without one, in B how many mileages were seen (2 for more), in R 1 for
-/// a majority.
-pub const BRANCHES: [&str; 36] = [
-    "BF<k", "BC<k", "BS<k", "BK<k", "BF>w", "BC>m", "BS>m", "BK>m", "BF=w", "BF=N", "BC=n", "BC=N",
-    "BC=m", "BC=w", "BC=W", "BS=n", "BS=m", "BS=d", "BS=0", "BS=1", "BS=2", "BK=N", "RF<k", "RS<k",
-    "RK<k", "RF>w", "RS>m", "RK>m", "RF=w", "RF=N", "RS=n", "RS=m", "RS=d", "RS=0", "RS=1", "RK=N",
+/// a majority; of a vote sent again, b CHECK beside a second estimate, p with another proposal than the log's, A with split, a any other.
+pub const BRANCHES: [&str; 40] = [
+    "BF<k", "BC<k", "BS<k", "BK<k", "BF>w", "BC>m", "BS>m", "BK>m", "BF=w", "BF=a", "BF=b", "BC=n",
+    "BC=a", "BC=A", "BC=p", "BC=m", "BC=w", "BC=W", "BS=n", "BS=m", "BS=d", "BS=0", "BS=1", "BS=2",
+    "BK=N", "RF<k", "RS<k", "RK<k", "RF>w", "RS>m", "RK>m", "RF=w", "RF=a", "RF=p", "RS=n", "RS=m",
+    "RS=d", "RS=0", "RS=1", "RK=N",
 ];
 
 #[derive(Default)]
@@ -64,8 +66,9 @@ impl Reached {
     }
 }
 
-/// An accepted delivery: the image before and after it, message and answer.
+/// An accepted delivery: the log before it, the image before and after it, message and answer.
 struct Delivery<'a> {
+    log: [u8; LOG_LENGTH],
     before: [u8; IMAGE_LENGTH],
     after: [u8; IMAGE_LENGTH],
     message: &'a [u8],
@@ -73,13 +76,16 @@ struct Delivery<'a> {
     decided: bool,
 }
 
-/// The image that a delivery is lent, as bytes.
-fn image(call: &Call) -> Option<[u8; IMAGE_LENGTH]> {
+/// The log and image that a delivery is lent, as bytes.
+fn unit(call: &Call) -> Option<([u8; LOG_LENGTH], [u8; IMAGE_LENGTH])> {
     match call.entry {
-        Entry::Deliver => call.bytes[IMAGE].slice().try_into().ok(),
+        Entry::Deliver => {
+            let [log, image] = [LOG, IMAGE].map(|at| call.bytes[at].slice());
+            Some((log.try_into().ok()?, image.try_into().ok()?))
+        }
         Entry::CardDeliver => {
             let row = call.place().and_then(|at| call.rows.slice().get(at));
-            row.map(|row| rows::bytes_of(row).1)
+            row.map(rows::bytes_of)
         }
         _ => None,
     }
@@ -90,9 +96,11 @@ pub fn branch(before: &Call, answer: &Answer) -> Option<[u8; 4]> {
     if answer.number != ACCEPTED {
         return None;
     }
+    let (log, image) = unit(before)?;
     let delivery = Delivery {
-        before: image(before)?,
-        after: image(&answer.after)?,
+        log,
+        before: image,
+        after: unit(&answer.after)?.1,
         message: before.bytes[MESSAGE].slice(),
         out: answer.after.bytes[OUT].slice(),
         decided: answer.after.decided().is_some(),
@@ -126,8 +134,20 @@ fn effect(delivery: &Delivery) -> u8 {
         0 if *after != delivery.before => b'm',
         0 if marked() => b'n',
         0 => b'N',
+        _ if *after == delivery.before => again(delivery),
         _ if get(out, ESTIMATE) == SPLIT => b'W',
         _ => b'w',
+    }
+}
+
+/// A vote sent again.
+fn again(delivery: &Delivery) -> u8 {
+    let out = delivery.out;
+    match out[0] {
+        b'C' if get(&delivery.before, SECOND_ESTIMATE) != BLANK => b'b',
+        b'S' if get(out, MESSAGE_PROPOSAL) != get(&delivery.log, PROPOSAL) => b'p',
+        _ if get(out, ESTIMATE) == SPLIT => b'A',
+        _ => b'a',
     }
 }
 

@@ -2,7 +2,7 @@
 
 use crate::listed::{items, one_of, BAD_HEADERS, BAD_LINES, FIELDS, GOOD_HEADERS, NO_UNIT_OF_3};
 use crate::made;
-use crate::play::PLACES;
+use crate::play::{Seen, PLACES};
 use crate::random::Random;
 
 /// Where the next byte of that value stands, looked for from anywhere on; the end if there is none.
@@ -95,7 +95,7 @@ fn damage_front(script: &mut Vec<u8>, random: &mut Random) {
     }
 }
 
-pub fn damaged(random: &mut Random) -> (Vec<u8>, u64) {
+pub fn damaged(random: &mut Random) -> (Vec<u8>, Seen) {
     let (mut script, _) = made::short(random);
     for _ in 0..1 + random.below(3) {
         let damage = random.one_of(&[
@@ -107,11 +107,11 @@ pub fn damaged(random: &mut Random) -> (Vec<u8>, u64) {
         ]);
         damage(&mut script, random);
     }
-    (script, 0)
+    (script, Seen::default())
 }
 
 /// A header, mostly malformed, and lines that would be good.
-pub fn headed(random: &mut Random) -> (Vec<u8>, u64) {
+pub fn headed(random: &mut Random) -> (Vec<u8>, Seen) {
     let header = if random.chance(1, 8) {
         one_of(GOOD_HEADERS, random)
     } else {
@@ -124,7 +124,7 @@ pub fn headed(random: &mut Random) -> (Vec<u8>, u64) {
     if random.chance(1, 8) {
         damage_byte(&mut script, random);
     }
-    (script, 0)
+    (script, Seen::default())
 }
 
 /// A head, one byte over and over up to a size, and a tail within that size.
@@ -191,7 +191,7 @@ fn switching(size: usize) -> Vec<u8> {
 
 /// All places filled, then what is refused for it and what is not.
 fn crowded() -> Vec<u8> {
-    let tail = "P,0,10000000\nP,0,5\nD,0,0\nD,0,0\nW,0,0\nU,0\nD,0,0\nP,0,5\nK,0\nD,1,127\nW,1,0\nU,1\nD,1,128\n";
+    let tail = "P,0,10000000\nP,0,5\nD,0,0\nD,0,0\nW,0,0\nU,0\nD,0,0\nW,0,0\nU,0\nP,0,5\nK,0\nD,1,127\nW,1,0\nU,1\nD,1,128\n";
     ["B,3,7\n", &"P,0,5\n".repeat(PLACES), tail]
         .concat()
         .into_bytes()
@@ -199,6 +199,9 @@ fn crowded() -> Vec<u8> {
 
 /// The scope paper's example.
 const EXAMPLE: &[u8] = b"B,3,7\nP,0,412077\nD,0,0\nD,1,0\nD,1,1\nD,1,2\nD,0,1\nW,0,2\nD,0,3\nU,0\nD,2,3\nD,2,1\nD,2,2\nD,2,4\n";
+
+/// The request's bike of three: unit 2 logs its estimate and loses power; the FIRST has it send its SECOND again.
+const SILENT: &[u8] = b"R,3,7\nP,0,412077\nD,0,0\nD,1,0\nW,2,0\nU,2\nD,2,0\nD,0,1\nD,0,2\nD,0,3\n";
 
 /// The example with each byte taken away or changed, and with each field changed.
 pub fn every_damage() -> Vec<Vec<u8>> {
@@ -222,7 +225,7 @@ pub fn every_damage() -> Vec<Vec<u8>> {
 pub fn fixed() -> Vec<Vec<u8>> {
     let mut scripts: Vec<Vec<u8>> = FILLED.iter().map(filled).collect();
     scripts.extend((32766..=32770).map(switching));
-    scripts.push(crowded());
+    scripts.extend([crowded(), SILENT.to_vec()]);
     for header in items(BAD_HEADERS).chain(items(GOOD_HEADERS)) {
         scripts.push([header, &b"\nP,0,5\n"[..]].concat());
         scripts.push(header.to_vec());

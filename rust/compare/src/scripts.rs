@@ -3,7 +3,7 @@
 use crate::format::{MAX_UNITS, MIN_UNITS};
 use crate::made::{self, Make};
 use crate::places;
-use crate::play::PLACES;
+use crate::play::{Seen, PLACES};
 use crate::program::{Failure, Feed};
 use crate::random::Random;
 use crate::script_damage;
@@ -27,7 +27,7 @@ struct Tally {
     scripts: u64,
     lines: u64,
     decisions: u64,
-    later: u64,
+    seen: Seen,
     full: u64,
     feeds: [u64; 4],
     numbers: [u64; 12],
@@ -88,8 +88,19 @@ impl Tally {
                 missing.push(format!("a decision with n = {n} in each engine"));
             }
         }
-        if self.later == 0 || self.full == 0 || self.feeds.contains(&0) {
+        let Seen {
+            later,
+            again,
+            cut,
+            crowded,
+        } = self.seen;
+        if later == 0 || self.full == 0 || self.feeds.contains(&0) {
             missing.push("a later round, all places filled, or a way to feed".to_string());
+        }
+        if [again, cut, crowded].contains(&0) {
+            missing.push(format!(
+                "a vote sent again {again}, cut {cut}, or refused with 11 {crowded}"
+            ));
         }
         if !missing.is_empty() {
             return Err(format!("never reached: {}", missing.join(", ")));
@@ -99,7 +110,8 @@ impl Tally {
             .map(|&number| format!("{number}: {}", self.numbers[number]))
             .collect();
         Ok(format!(
-            "{} scripts of {} lines, {} whole, {} in pieces, {} by bytes, {} by bytes slowly; {} decisions, {} in a later round; {} fill all places; {}",
+            "{} scripts of {} lines, {} whole, {} in pieces, {} by bytes, {} by bytes slowly; \
+             {} decisions, {later} in a later round; {} fill all places; votes sent again {again}, cut {cut}, refused with 11 {crowded}; {}",
             self.scripts,
             self.lines,
             self.feeds[0],
@@ -107,7 +119,6 @@ impl Tally {
             self.feeds[2],
             self.feeds[3],
             self.decisions,
-            self.later,
             self.full,
             numbers.join(", ")
         ))
@@ -281,10 +292,10 @@ pub fn run(players: &Players, hundreds: u64, random: &mut Random) -> Result<Stri
     let mut tally = Tally::default();
     for (make, share) in KINDS {
         for _ in 0..share * hundreds {
-            let (script, later) = make(random);
+            let (script, seen) = make(random);
             let feed = some_feed(&script, random);
             players.check(&script, feed, &mut tally)?;
-            tally.later += later;
+            tally.seen.add(&seen);
         }
     }
     let text = tally.summary()?;

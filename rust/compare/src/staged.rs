@@ -4,6 +4,11 @@ use crate::format::{get, EVERYONE, MESSAGE_ROUND, RECEIVER};
 use crate::play::Play;
 
 impl Play<'_> {
+    /// Whether a unit does not hear what would only have it send a vote again.
+    fn passes_over(&mut self, unit: u32, message: u32) -> bool {
+        self.only_again(unit, message) && !self.in_thousand(self.again)
+    }
+
     fn round_of(&self, unit: u32) -> u32 {
         self.world.units[unit as usize].round()
     }
@@ -26,7 +31,7 @@ impl Play<'_> {
             } else {
                 self.random.chance(11, 12)
             };
-            if sent[0] == kind && !misses && hears {
+            if sent[0] == kind && !misses && hears && !self.passes_over(unit, message) {
                 let letter = if self.in_thousand(self.cuts / 2) {
                     b'W'
                 } else {
@@ -93,7 +98,8 @@ impl Play<'_> {
         self.propose_new(proposer);
         while message < self.kept() {
             for unit in 0..self.n() {
-                if get(&self.world.sent[message as usize].bytes, RECEIVER) == EVERYONE {
+                let everyone = get(&self.world.sent[message as usize].bytes, RECEIVER) == EVERYONE;
+                if everyone && !self.passes_over(unit, message) {
                     self.line(b'D', unit, message);
                 }
             }

@@ -3,9 +3,14 @@
 use compare::program::{printed, Failure, Feed};
 use compare::random::Random;
 use compare::scripts::{run, Player, Players};
+use compare::side::{Side, INDEPENDENT};
 use independent::bench::listing;
+use independent::calls;
 use std::cell::Cell;
 use std::path::Path;
+use wrong_bench::listed;
+
+mod wrong_bench;
 
 fn right(script: &[u8], _: Feed) -> Result<Vec<u8>, Failure> {
     Ok(listing(script))
@@ -114,6 +119,30 @@ fn what_is_never_reached_is_a_failure() {
     let never = |script: &[u8], _: Feed| replaced(script, ",10,-,-", ",9,-,-");
     let found = run(&Players(&never, &never), 10, &mut Random::new(1)).unwrap_err();
     assert!(found.contains("never reached: number 10"), "{found}");
+}
+
+/// A delivery as before request 2: no CHECK or SECOND goes out again.
+fn silent(log: &mut [u8], image: &mut [u8], met: &[u8], out: &mut [u8], decision: &mut u32) -> u32 {
+    let before = [log.to_vec(), image.to_vec()];
+    let number = calls::deliver(log, image, met, out, decision);
+    if *log == before[0] && *image == before[1] && matches!(out[0], b'C' | b'S') {
+        out.fill(0);
+    }
+    number
+}
+
+/// With the right units the bench of these tests is a right one.
+#[test]
+fn a_bench_of_silent_units_is_found() {
+    let plays = |side| move |script: &[u8], _: Feed| Ok(listed(&side, script));
+    let right_units = plays(INDEPENDENT);
+    run(&Players(&right_units, &right), 10, &mut Random::new(1)).unwrap();
+    let deliver = silent;
+    let silent_units = plays(Side {
+        deliver,
+        ..INDEPENDENT
+    });
+    assert_bytes(&report(&silent_units), 25);
 }
 
 /// It is not played again on smaller scripts.

@@ -104,36 +104,36 @@ fn enter(image: &mut Image, round: u32, proposal: u32) {
     image.seconds = Gathered::NONE;
 }
 
-/// Lines 22 to 26. The unit's own proposal stays as it is.
+/// Lines 22 to 26. The unit's own proposal stays as it is. "A FIRST of the unit's round, met with a first estimate present, makes it send its
+/// CHECK (B) or SECOND (R) again."
 fn first(step: &mut Step, proposal: u32) {
     let unit = &mut step.image.current;
-    if unit.first != BLANK {
-        return;
+    if unit.first == BLANK {
+        unit.first = proposal;
+        step.logs = true;
     }
-    unit.first = proposal;
-    step.logs = true;
     step.message = Some(match unit.settings.engine {
-        Engine::B => to_everyone(unit, Kind::Check, proposal, proposal),
-        Engine::R => to_everyone(unit, Kind::Second, proposal, unit.proposal),
+        Engine::B => to_everyone(unit, Kind::Check, unit.first, unit.first),
+        Engine::R => to_everyone(unit, Kind::Second, unit.first, unit.proposal),
     });
 }
 
-/// B's lines 27 to 35. "The second estimate is set only where it is blank."
+/// B's lines 27 to 35. "The second estimate is set only where it is blank"; "a CHECK met with a second estimate present makes it send that SECOND
+/// again", with "the proposal that the image now holds".
 fn check(step: &mut Step, message: &Message) {
     let Image {
         current: unit,
         checks,
         ..
     } = &mut step.image;
-    if unit.second != BLANK
-        || !checks.mark(message.sender, message.estimate)
-        || !is_quorum(unit, checks)
-    {
-        return;
+    if unit.second == BLANK {
+        if !checks.mark(message.sender, message.estimate) || !is_quorum(unit, checks) {
+            return;
+        }
+        unit.second = common(checks).unwrap_or(SPLIT);
+        *checks = Gathered::NONE;
+        step.logs = true;
     }
-    unit.second = common(checks).unwrap_or(SPLIT);
-    *checks = Gathered::NONE;
-    step.logs = true;
     step.message = Some(to_everyone(unit, Kind::Second, unit.second, unit.proposal));
 }
 

@@ -6,106 +6,16 @@ use independent::codec::{
     MESSAGE_LENGTH, SPLIT,
 };
 use independent::step::{majority, quorum};
+use std::collections::HashMap;
+use unit::{broadcast, log_fields, message, Bytes, Unit, B, C, EMPTY, ENTRY, F, K, R, S};
 
-const B: u32 = b'B' as u32;
-const R: u32 = b'R' as u32;
-const F: u32 = b'F' as u32;
-const C: u32 = b'C' as u32;
-const S: u32 = b'S' as u32;
-const K: u32 = b'K' as u32;
-const ENTRY: u32 = 7;
-const EMPTY: [u8; MESSAGE_LENGTH] = [0; MESSAGE_LENGTH];
-
-type Bytes = [u8; MESSAGE_LENGTH];
-
-#[derive(Clone, Copy, Debug, PartialEq, Eq)]
-struct Unit {
-    log: [u8; LOG_LENGTH],
-    image: [u8; IMAGE_LENGTH],
-}
+mod unit;
 
 impl Unit {
-    fn start(engine: u32, n: u32, unit: u32) -> Unit {
-        let mut fresh = Unit {
-            log: [0xAA; LOG_LENGTH],
-            image: [0xAA; IMAGE_LENGTH],
-        };
-        assert_eq!(
-            calls::start(engine, n, unit, ENTRY, &mut fresh.log, &mut fresh.image),
-            0
-        );
-        fresh
-    }
-
-    /// A unit keyed on from a log of these fields.
-    fn of_log(fields: [u32; LOG_FIELDS]) -> Unit {
-        let mut unit = Unit {
-            log: [0xAA; LOG_LENGTH],
-            image: [0xAA; IMAGE_LENGTH],
-        };
-        assert_eq!(calls::write_log(&fields, &mut unit.log), 0);
-        assert_eq!(calls::key_on(&unit.log, &mut unit.image), 0);
-        unit
-    }
-
-    fn propose(&mut self, mileage: u32) -> (u32, Bytes) {
-        let mut out = [0xAA; MESSAGE_LENGTH];
-        let number = calls::propose(&self.log, &mut self.image, mileage, &mut out);
-        (number, out)
-    }
-
-    fn deliver(&mut self, message: &[u8]) -> (u32, Bytes, u32) {
-        let (mut out, mut decision) = ([0xAA; MESSAGE_LENGTH], 1);
-        let number = calls::deliver(
-            &mut self.log,
-            &mut self.image,
-            message,
-            &mut out,
-            &mut decision,
-        );
-        (number, out, decision)
-    }
-
-    fn current(&self) -> [u32; LOG_FIELDS] {
-        log_fields(&self.image[..LOG_LENGTH])
-    }
-
     fn round_and_proposal(&self) -> (u32, u32) {
         let fields = self.current();
         (fields[4], fields[5])
     }
-
-    /// The marks of CHECK and of SECOND.
-    fn marks(&self) -> (u16, u16) {
-        let at = |at: usize| u16::from_be_bytes([self.image[at], self.image[at + 1]]);
-        (at(20), at(86))
-    }
-}
-
-fn log_fields(log: &[u8]) -> [u32; LOG_FIELDS] {
-    let mut fields = [0; LOG_FIELDS];
-    assert_eq!(calls::read_log(log, &mut fields), 0);
-    fields
-}
-
-fn message(fields: [u32; MESSAGE_FIELDS]) -> Bytes {
-    let mut bytes = [0xAA; MESSAGE_LENGTH];
-    assert_eq!(calls::write_message(&fields, &mut bytes), 0);
-    bytes
-}
-
-fn broadcast(
-    kind: u32,
-    engine: u32,
-    n: u32,
-    sender: u32,
-    round: u32,
-    estimate: u32,
-    proposal: u32,
-) -> Bytes {
-    message([
-        kind, engine, n, sender, EVERYONE, ENTRY, round, estimate, proposal,
-    ])
 }
 
 fn skip(n: u32, sender: u32, receiver: u32, round: u32, proposal: u32) -> Bytes {
@@ -496,11 +406,11 @@ fn b_split_and_two_splits() {
         log_fields(&unit.log),
         [B, 3, 0, ENTRY, 0, BLANK, BLANK, SPLIT]
     );
-    // Once set, the second estimate stays.
+    // Once set, the second estimate stays: any CHECK has it sent again.
     let before = unit;
     assert_eq!(
         unit.deliver(&broadcast(C, B, 3, 0, 0, 5, 5)),
-        (0, EMPTY, BLANK)
+        (0, broadcast(S, B, 3, 0, 0, SPLIT, BLANK), BLANK)
     );
     assert_eq!(unit, before);
 
@@ -596,7 +506,7 @@ fn b_decides_in_three_steps() {
         (0, broadcast(F, B, 3, 2, 1, 412_077, 412_077))
     );
 
-    // Key-on takes unit 1 back to round 0 with both estimates, and it then sends no second SECOND.
+    // Key-on takes unit 1 back to round 0 with both estimates, and any CHECK then has it send its SECOND again.
     let Unit { log, image } = &mut units[1];
     assert_eq!(calls::key_on(log, image), 0);
     assert_eq!(
@@ -604,7 +514,7 @@ fn b_decides_in_three_steps() {
         [B, 3, 1, ENTRY, 0, BLANK, 412_077, 412_077]
     );
     for check in &checks {
-        assert_eq!(units[1].deliver(check), (0, EMPTY, BLANK));
+        assert_eq!(units[1].deliver(check), (0, second, BLANK));
     }
     assert_eq!(units[1].marks(), (0, 0));
 }
@@ -616,10 +526,10 @@ fn r_decides_in_two_steps() {
     let seconds = [0, 1, 3].map(|unit| units[unit].deliver(&first).1);
     assert_eq!(seconds[0], broadcast(S, R, 4, 0, 0, 31, BLANK));
     assert_eq!(seconds[2], broadcast(S, R, 4, 3, 0, 31, 31));
-    // A second FIRST of the round changes nothing.
+    // A second FIRST of the round changes nothing: the estimate taken is sent again.
     assert_eq!(
         units[0].deliver(&broadcast(F, R, 4, 1, 0, 9, 9)),
-        (0, EMPTY, BLANK)
+        (0, seconds[0], BLANK)
     );
     assert_eq!(
         log_fields(&units[0].log),
@@ -734,13 +644,13 @@ impl Random {
 #[test]
 fn random_histories_agree_and_stay_well_formed() {
     let mut random = Random(0x9E37_79B9_7F4A_7C15);
-    let mut decided = 0;
+    let (mut decided, mut again) = (0, 0);
     for history in 0..300 {
         let engine = if history % 2 == 0 { B } else { R };
         let n = 3 + random.below(3);
         let mut units: Vec<Unit> = (0..n).map(|unit| Unit::start(engine, n, unit)).collect();
         let mut sent = vec![units[0].propose(1).1];
-        let mut decision = None;
+        let (mut decision, mut votes) = (None, HashMap::new());
         for _ in 0..400 {
             let unit = &mut units[random.below(n) as usize];
             let out = match random.below(20) {
@@ -761,14 +671,23 @@ fn random_histories_agree_and_stay_well_formed() {
                 }
             };
             if out != EMPTY {
-                assert_eq!(calls::read_message(&out, &mut [0; MESSAGE_FIELDS]), 0);
+                let mut fields = [0; MESSAGE_FIELDS];
+                assert_eq!(calls::read_message(&out, &mut fields), 0);
                 sent.push(out);
+                // However often a unit votes in a round, it has one estimate of each kind.
+                let [kind, _, _, sender, _, _, round, estimate, _] = fields;
+                if let C | S = kind {
+                    let before = votes.insert((kind, sender, round), estimate);
+                    again += u32::from(before.is_some());
+                    assert_eq!(before.unwrap_or(estimate), estimate);
+                }
             }
             // The image still fits its log: what is refused now is the mileage alone.
             assert_eq!(unit.propose(10_000_000).0, 6);
         }
     }
     assert!(decided > 50, "only {decided} decisions");
+    assert!(again > 1_000, "only {again} votes again");
 }
 
 #[test]

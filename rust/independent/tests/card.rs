@@ -468,3 +468,46 @@ fn two_entries_on_one_card() {
     assert_eq!(call(BESIDE, &mut rows, KeyOn(3)).0, 0);
     assert_eq!(rows, [one, GARBAGE, row([B, 3, 1, 3, 0, BLANK, 8, 8])]);
 }
+
+/// Beside a row whose image has another proposal than its log, and CHECKs or SECONDs gathered: what goes out again is the image's.
+#[test]
+fn a_vote_again_leaves_every_row() {
+    let with_proposal = |fields| {
+        let mut row = row(fields);
+        row.image.proposal = 77;
+        mark(&mut row.seconds, 2, 5);
+        row
+    };
+    let split = with_proposal([B, 3, 1, 2, 4, 5, 6, SPLIT]);
+    let first = broadcast(F, 0, 2, 4, 9);
+    for (beside, row, met, vote) in [
+        (BESIDE, split, first, broadcast(C, 1, 2, 4, 6)),
+        (
+            BESIDE,
+            split,
+            broadcast(C, 1, 2, 4, 9),
+            message([S, B, 3, 1, EVERYONE, 2, 4, SPLIT, 77]),
+        ),
+        (
+            [R, 3, 1],
+            with_proposal([R, 3, 1, 2, 4, 5, 6, BLANK]),
+            message([F, R, 3, 2, EVERYONE, 2, 4, 9, 9]),
+            message([S, R, 3, 1, EVERYONE, 2, 4, 6, 77]),
+        ),
+    ] {
+        for count in [2, 64] {
+            let mut rows = card(count, row);
+            for _ in 0..2 {
+                assert_eq!(call(beside, &mut rows, Deliver(&met)), (0, vote, BLANK));
+                assert_eq!(rows, card(count, row));
+            }
+        }
+    }
+    // Without a second estimate a CHECK is gathered, and its sender's next one is not answered.
+    let mut rows = card(2, GOOD);
+    for _ in 0..2 {
+        let check = broadcast(C, 0, 2, 4, 9);
+        assert_eq!(call(BESIDE, &mut rows, Deliver(&check)), (0, EMPTY, BLANK));
+    }
+    assert_eq!(rows, card(2, with(|row| mark(&mut row.checks, 0, 9))));
+}

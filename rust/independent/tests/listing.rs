@@ -168,18 +168,76 @@ end,12,5
 
 #[test]
 fn refusal_11_no_place_left() {
-    let mut script = String::from("B,3,7\n");
-    let mut expected = script.clone();
-    for index in 1..=MESSAGE_PLACES {
+    let mut script = String::from("B,3,7\nP,0,5\nD,0,0\nD,1,0\n");
+    let mut expected = String::from("B,3,7\n1,P,0,0,0,-\n2,D,0,0,1,-\n3,D,1,0,2,-\n");
+    for index in 4..=MESSAGE_PLACES {
         script += "P,0,5\n";
         expected += &format!("{index},P,0,0,{},-\n", index - 1);
     }
-    // A step that sends nothing is accepted, W never meets 11, 6 and 10 come before 11, and a refused event changes nothing.
-    script += "P,0,5\nP,0,10000000\nD,1,128\nD,1,0\nW,1,0\nU,1\nD,1,0\nK,2\n";
-    expected += "129,P,0,11,-,-\n130,P,0,6,-,-\n131,D,1,10,-,-\n132,D,1,11,-,-\n133,W,1,0,-,-\n134,U,1,0,-,-\n";
-    // W logged the first estimate, so the FIRST sends nothing now.
-    expected += "135,D,1,0,-,-\n136,K,2,0,-,-\nend,136,128\n";
+    // 6 and 10 come before 11. A FIRST would be taken by unit 2 and have unit 0 send its CHECK again.
+    script += "P,0,5\nP,0,10000000\nD,2,128\nD,2,0\nD,0,0\n";
+    expected += "129,P,0,11,-,-\n130,P,0,6,-,-\n131,D,2,10,-,-\n132,D,2,11,-,-\n133,D,0,11,-,-\n";
+    // A step that sends nothing is accepted. The refused quorum changed nothing: with its second estimate set, unit 2 would be refused again.
+    script += "D,2,1\nD,2,2\nD,2,1\n";
+    expected += "134,D,2,0,-,-\n135,D,2,11,-,-\n136,D,2,0,-,-\n";
+    // W never meets 11. It logs the first estimate, which unit 2 would send again, and then it logs nothing.
+    script += "W,2,0\nU,2\nD,2,0\nW,2,0\nK,1\n";
+    expected +=
+        "137,W,2,0,-,-\n138,U,2,0,-,-\n139,D,2,11,-,-\n140,W,2,0,-,-\n141,K,1,0,-,-\nend,141,128\n";
     assert_eq!(list(&script), expected);
+}
+
+/// The request's brake box: unit 2 logged its estimate and lost power; the FIRST has it send its SECOND, and the entry closes.
+#[test]
+fn a_second_lost_at_a_cut_goes_out_again() {
+    let script = "R,3,7\nP,0,412077\nD,0,0\nD,1,0\nW,2,0\nU,2\nD,2,0\nD,0,1\nD,0,2\nD,0,3\n";
+    let expected = "\
+R,3,7
+1,P,0,0,0,-
+2,D,0,0,1,-
+3,D,1,0,2,-
+4,W,2,0,-,-
+5,U,2,0,-,-
+6,D,2,0,3,-
+7,D,0,0,-,-
+8,D,0,0,-,-
+9,D,0,0,-,412077
+end,9,4
+";
+    assert_eq!(list(script), expected);
+}
+
+#[test]
+fn check_and_second_lost_at_cuts_go_out_again() {
+    // Unit 1 loses its CHECK, and later its SECOND: message 2 is its CHECK, 3 and 4 its SECOND, had by the CHECK of another and by its own.
+    let script = "B,3,7\nP,0,5\nD,0,0\nW,1,0\nU,1\nD,1,0\nD,1,1\nW,1,2\nU,1\nD,1,1\nD,1,2\n\
+                  D,0,1\nD,0,2\nD,2,5\nD,2,4\nD,2,3\nD,1,0\nW,1,0\nD,1,0\nU,1\nD,1,0\n";
+    // A FIRST has it send its CHECK, though it has both estimates. A cut repeat is like a key-off.
+    let expected = "\
+B,3,7
+1,P,0,0,0,-
+2,D,0,0,1,-
+3,W,1,0,-,-
+4,U,1,0,-,-
+5,D,1,0,2,-
+6,D,1,0,-,-
+7,W,1,0,-,-
+8,U,1,0,-,-
+9,D,1,0,3,-
+10,D,1,0,4,-
+11,D,0,0,-,-
+12,D,0,0,5,-
+13,D,2,0,-,-
+14,D,2,0,-,5
+15,D,2,0,6,-
+16,D,1,0,7,-
+17,W,1,0,-,-
+18,D,1,9,-,-
+19,U,1,0,-,-
+20,D,1,0,8,-
+end,20,9
+";
+    assert_eq!(list(script), expected);
 }
 
 #[test]
@@ -209,7 +267,7 @@ end,13,5
 #[test]
 fn key_off_loses_an_unlogged_proposal() {
     let script = "B,3,7\nP,0,5\nK,0\nU,0\nP,0,6\nD,1,1\nD,1,0\nD,2,2\nD,0,2\nD,0,0\n";
-    // Message 1 is FIRST of 6, which unit 1 takes; its CHECK is message 2.
+    // Message 1 is FIRST of 6, which unit 1 takes; its CHECK is message 2, and 3 when it meets the FIRST of 5.
     let expected = "\
 B,3,7
 1,P,0,0,0,-
@@ -217,11 +275,11 @@ B,3,7
 3,U,0,0,-,-
 4,P,0,0,1,-
 5,D,1,0,2,-
-6,D,1,0,-,-
+6,D,1,0,3,-
 7,D,2,0,-,-
 8,D,0,0,-,-
-9,D,0,0,3,-
-end,9,4
+9,D,0,0,4,-
+end,9,5
 ";
     assert_eq!(list(script), expected);
 }
