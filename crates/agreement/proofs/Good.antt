@@ -1,6 +1,5 @@
 -- Each branch of one unit's step is good against the messages sent before it. Assumes nothing.
 use Rattle.std.specs.Prelude.{Option, None}
-use Rattle.std.proofs.lemmas.Bool.{and_parts}
 use Prim.Native.Nat.{ℕ, ◌^◌, ◌≤◌, ◌<◌}
 use mathlib.Core.Path.{◌≡◌, refl, sym, ap, subst, ◌∙◌}
 use mathlib.Core.Bool.{Bool, true, false}
@@ -23,7 +22,6 @@ use Rattle.tally.proofs.Marks.{mark_adds}
 use Rattle.tally.proofs.Never.{never}
 use Rattle.tally.proofs.Quorums.{quorum_half}
 use Rattle.contents.specs.Estimates.{is_blank}
-use Rattle.contents.specs.Images.{same_settings, fits}
 use Rattle.contents.specs.Messages.{empty_message}
 use Rattle.contents.specs.declared.Kind.{Kind}
 use Rattle.contents.specs.declared.Kind.TheVariants.{Empty, Check, Second}
@@ -31,7 +29,7 @@ use Rattle.contents.specs.declared.Message.{Message}
 use Rattle.contents.specs.declared.State.{State}
 use Rattle.contents.proofs.Facts.{message_facts, image_facts}
 use Rattle.contents.proofs.KindRules.{check_mileage}
-use Rattle.contents.proofs.Same.{Fits, state_fits_lem, first_fits, second_fits, same_estimate_lem}
+use Rattle.contents.proofs.Same.{Fits, first_fits, second_fits, same_estimate_lem}
 use Rattle.consensus.specs.Methods.{unless, propose_conditions, propose, deliver_conditions, deliver, key_off, key_on}
 use Rattle.consensus.specs.Conditions.{Condition}
 use Rattle.consensus.specs.Step.{quiet, says, with_checks, with_first, with_second, log_write, at_round, recovered, or_if_blank, send_first, proposed}
@@ -43,6 +41,7 @@ use Rattle.consensus.specs.declared.Power.{Power}
 use Rattle.consensus.specs.declared.Power.TheVariants.{Down, Up}
 use Rattle.consensus.specs.declared.Unit as U
 use Rattle.consensus.proofs.Branches.{by_kind, by_check, by_second, by_round, by_unless}
+use Rattle.consensus.proofs.Repeats.{unit_fits}
 use Rattle.consensus.proofs.Full.{Proper, proper_mark, proper_none, proper_unit}
 use Rattle.agreement.specs.Worlds.{Setup, settings_of}
 use Rattle.agreement.proofs.Closing.{tallied_none, tallied_mark, kind_ok_lem, filled, common_quorum, next_sure, chosen}
@@ -77,11 +76,10 @@ seated c u x =
     record { power = x.power; settings = settings_of c u; logged = x.logged; current = x.current; checks = x.checks; seconds = x.seconds }
 
 ready : (l : Limits) (c : Setup) (u : ℕ) (x : U.Unit) → WellFormed l (seated c u x) → Ready c (seated c u x)
-unfolding fits
 ready l c u x w =
     let p = proper_unit l (seated c u x) w in
     record {
-      fits = state_fits_lem x.current x.logged (and_parts (same_settings (settings_of c u) (settings_of c u)) _ w.fit).1;
+      fits = unit_fits l (seated c u x) w;
       checks = p.0;
       seconds = p.1;
       few = (image_facts l (unit_image (seated c u x)) w.image).seconds.few;

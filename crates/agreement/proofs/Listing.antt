@@ -149,7 +149,7 @@ brake_box =
     ∷ delivery 1 0 out
     ∷ []
 
-pub record AgainR (w : ByteWorld) : Type 0 where
+pub record OfBrakeBox (w : ByteWorld) : Type 0 where
   pub decided : w.decided ≡ record { unit = 0; round = 0; mileage = 412077 } ∷ []
   pub after_cut : get_elem? w.sent 3 ≡ some (message S letter_r 3 2 255 0 m blank)
   pub with_blank : get_elem? w.sent 2 ≡ some (message S letter_r 3 1 255 0 m blank)
@@ -177,7 +177,7 @@ two_cuts =
     ∷ delivery 2 6 out
     ∷ []
 
-pub record AgainB (w : ByteWorld) : Type 0 where
+pub record OfTwoCuts (w : ByteWorld) : Type 0 where
   pub decided : w.decided ≡ record { unit = 2; round = 0; mileage = 412077 } ∷ []
   pub check : get_elem? w.sent 2 ≡ some (message C letter_b 3 1 255 0 m m)
   pub second : get_elem? w.sent 3 ≡ some (message S letter_b 3 0 255 0 m m)
@@ -189,10 +189,16 @@ pub record AgainB (w : ByteWorld) : Type 0 where
 -- ---- all
 
 -- all starts are accepted
-pub computed : (starts of3 ≡ replicate 3 0)
-    × (OfListing (after' of3 listing)
-    × (AgainB (after' of3 two_cuts)
-    × ((starts of4 ≡ replicate 4 0) × (Majority (after' of4 of_r) × ((starts of3_r ≡ replicate 3 0) × AgainR (after' of3_r brake_box))))))
+pub record Computed : Type 0 where
+  pub starts_b : starts of3 ≡ replicate 3 0
+  pub listed : OfListing (after' of3 listing)
+  pub cut_twice : OfTwoCuts (after' of3 two_cuts)
+  pub starts_4 : starts of4 ≡ replicate 4 0
+  pub decided_5 : Majority (after' of4 of_r)
+  pub starts_r : starts of3_r ≡ replicate 3 0
+  pub heard : OfBrakeBox (after' of3_r brake_box)
+
+pub computed : Computed
 unfolding ones holders all_hold common first_passing leads majority no_marks mark gathered_from gathered mileage_or_blank mileage_or_split second_estimate_ok
     same_mileage state_ok log_ok every cell_ok cells_ok tally_ok checks_allowed image_ok same_settings state_fits fits first_ok check_ok second_ok skip_ok
     kind_ok message_ok num_at bytes_of read_log read_message cleared read_image image_bytes first_refusal at_log down_unit says log_write at_round fresh
@@ -201,19 +207,13 @@ unfolding ones holders all_hold common first_passing leads majority no_marks mar
     deliver key_on unit_lengths bad_log bad_settings bad_image bad_message log_bytes message_bytes start_call_conditions start_call key_on_call_conditions
     key_on_call propose_call_conditions propose_call deliver_call_conditions deliver_call run begun after after_proposal after_cut after_key_on proposal_of
     delivering key_on_of step
-computed = (
-  refl,
-  (
-    record { sent = refl; proposed = refl; decided = refl; unit_0 = refl },
-    (
-      record { decided = refl; check = refl; second = refl; with_blank = refl; with_mileage = refl; unit_0 = refl },
-      (
-        refl,
-        (
-          record { proposed = refl; decided = refl; first = refl; skip = refl },
-          (refl, record { decided = refl; after_cut = refl; with_blank = refl; with_mileage = refl }),
-        ),
-      ),
-    ),
-  ),
-)
+computed =
+    record {
+      starts_b = refl;
+      listed = record { sent = refl; proposed = refl; decided = refl; unit_0 = refl };
+      cut_twice = record { decided = refl; check = refl; second = refl; with_blank = refl; with_mileage = refl; unit_0 = refl };
+      starts_4 = refl;
+      decided_5 = record { proposed = refl; decided = refl; first = refl; skip = refl };
+      starts_r = refl;
+      heard = record { decided = refl; after_cut = refl; with_blank = refl; with_mileage = refl };
+    }

@@ -10,17 +10,21 @@ use Rattle.contents.specs.Estimates.{is_blank}
 use Rattle.contents.specs.Images.{same_settings, fits}
 use Rattle.contents.specs.declared.Kind.TheVariants.{First, Check, Second}
 use Rattle.contents.specs.declared.Message.{Message}
-use Rattle.contents.proofs.Same.{state_fits_lem, first_fits, second_fits}
+use Rattle.contents.proofs.Same.{Fits, state_fits_lem, first_fits, second_fits}
 use Rattle.consensus.specs.Step.{sends, recovered, vote_kind, vote_proposal, vote_first, on_first, vote_second, on_check, on_kind, received}
 use Rattle.consensus.specs.Units.{WellFormed, at_log}
 use Rattle.consensus.specs.declared.Answer.{Answer}
 use Rattle.consensus.specs.declared.Unit as U
 use Rattle.consensus.proofs.Laws.{received_at}
 
--- a message that makes the unit send a vote again: of its round, and the estimate is there
+-- FIRST meets a first estimate, or CHECK a second
+abbrev pub Meets : U.Unit → Message → Type 0
+Meets u m = ((m.kind ≡ First) × (is_blank u.current.first ≡ false)) ⊎ ((m.kind ≡ Check) × (is_blank u.current.second ≡ false))
+
+-- a message that makes the unit send a vote again: it is of the unit's round too
 pub record Repeats (u : U.Unit) (m : Message) : Type 0 where
   pub round : m.round ≡ u.current.round
-  pub vote : ((m.kind ≡ First) × (is_blank u.current.first ≡ false)) ⊎ ((m.kind ≡ Check) × (is_blank u.current.second ≡ false))
+  pub meets : Meets u m
 
 module _ (u : U.Unit) (m : Message) (round : m.round ≡ u.current.round) where
   at : received u m ≡ on_kind m.kind u m
@@ -42,21 +46,23 @@ pub record Again (u : U.Unit) (a : Answer) : Type 0 where
 
 pub again : (u : U.Unit) (m : Message) → Repeats u m → Again u (received u m)
 unfolding vote_first vote_second
-again u m r = go r.vote
+again u m r = go r.meets
   where
-    go : ((m.kind ≡ First) × (is_blank u.current.first ≡ false)) ⊎ ((m.kind ≡ Check) × (is_blank u.current.second ≡ false)) → Again u (received u m)
+    go : Meets u m → Again u (received u m)
     go (inl h) = rw (first_again u m r.round h.0 h.1) (record { refusal = refl; unit = refl; decision = refl })
     go (inr h) = rw (second_again u m r.round h.0 h.1) (record { refusal = refl; unit = refl; decision = refl })
 
 -- the estimate sent again stands in the log, in its round
 module _ (l : Limits) (u : U.Unit) (w : WellFormed l u) where
-  pub first_logged : is_blank u.current.first ≡ false → (u.logged.round ≡ u.current.round) × (u.logged.first ≡ u.current.first)
+  pub unit_fits : Fits u.current u.logged
   unfolding fits
-  first_logged = first_fits u.current u.logged (state_fits_lem _ _ (and_parts (same_settings u.settings u.settings) _ w.fit).1)
+  unit_fits = state_fits_lem u.current u.logged (and_parts (same_settings u.settings u.settings) _ w.fit).1
+
+  pub first_logged : is_blank u.current.first ≡ false → (u.logged.round ≡ u.current.round) × (u.logged.first ≡ u.current.first)
+  first_logged = first_fits u.current u.logged unit_fits
 
   pub second_logged : is_blank u.current.second ≡ false → (u.logged.round ≡ u.current.round) × (u.logged.second ≡ u.current.second)
-  unfolding fits
-  second_logged = second_fits u.current u.logged (state_fits_lem _ _ (and_parts (same_settings u.settings u.settings) _ w.fit).1)
+  second_logged = second_fits u.current u.logged unit_fits
 
 -- so a unit that logged an estimate, and lost power whenever, is heard again after its key-on: FIRST and CHECK bring what its log holds
 module _ (u : U.Unit) (m : Message) (round : m.round ≡ u.logged.round) where

@@ -291,7 +291,7 @@ or_blank_mileage : (l : Limits) (a : Estimate) (v : ℕ) → mileage_or_blank l 
 unfolding mileage_or_blank
 or_blank_mileage l Blank v h r = r
 or_blank_mileage l Split v h r = never h
-or_blank_mileage l (Mileage x) v h r = or_left (in_range l x) false h refl
+or_blank_mileage l (Mileage x) v h r = filled_first l (Mileage x) h refl
 
 pub sound_propose : (l : Limits) (u : U.Unit) (v : ℕ) → WellFormed l u → Sound l u (propose l u v)
 unfolding propose propose_conditions proposed send_first out_of_range kind_ok state_fits

@@ -3,17 +3,17 @@
 use compare::alone::INDEPENDENT_ALONE;
 use compare::card_differential::{self, Cards};
 use compare::card_histories;
-use compare::differential::{self, Amount};
 use compare::format::*;
-use compare::histories;
 use compare::last_rounds;
 use compare::random::Random;
-use compare::side::{CardDeliver, Deliver, Pair, Side};
+use compare::side::{CardDeliver, Deliver, Side};
 use compare::votes::OTHER_ESTIMATE;
 use independent::{calls, card};
 use wrong::{against_itself, against_right, assert_has, events, failed};
+use wrong_reports::{calls_report, histories_report};
 
 mod wrong;
+mod wrong_reports;
 
 /// What a vote sent again is made of: the log and the image, the message met, and the vote to be changed.
 struct Again<'a> {
@@ -123,20 +123,6 @@ const SILENT_CARD: CardDeliver = |engine, n, unit, rows, met, out, decision| {
     }
     number
 };
-
-const FEW: Amount = Amount {
-    calls: 100_000,
-    swept: 0,
-    mileages: false,
-};
-
-fn calls_report(pair: Pair) -> String {
-    failed(differential::run(&pair, &FEW, &mut Random::new(1)))
-}
-
-fn histories_report(pair: Pair) -> String {
-    failed(histories::run(&pair, 2_000, &mut Random::new(1)))
-}
 
 fn assert_events(report: &str, most: usize) {
     let (count, _) = events(report);

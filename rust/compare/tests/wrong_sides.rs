@@ -12,8 +12,10 @@ use compare::side::{Deliver, Pair, Side, INDEPENDENT};
 use compare::world::Setting;
 use independent::calls;
 use wrong::{against_itself, against_right, assert_has, events, failed};
+use wrong_reports::{calls_report, histories_report, FEW};
 
 mod wrong;
+mod wrong_reports;
 
 type Image = [u8; IMAGE_LENGTH];
 
@@ -145,20 +147,6 @@ fn writes_another_round(fields: &[u32], log: &mut [u8]) -> u32 {
         put(log, ROUND, get(log, ROUND) / 2);
     }
     number
-}
-
-const FEW: Amount = Amount {
-    calls: 100_000,
-    swept: 0,
-    mileages: false,
-};
-
-fn calls_report(pair: Pair) -> String {
-    failed(differential::run(&pair, &FEW, &mut Random::new(1)))
-}
-
-fn histories_report(pair: Pair) -> String {
-    failed(histories::run(&pair, 2_000, &mut Random::new(1)))
 }
 
 /// The comparison of calls finds the side, and says so.
