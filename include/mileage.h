@@ -32,7 +32,7 @@ extern "C" {
  * of bytes, sizes, numbers, signatures or what a call answers. Firmware compares the two before its first call of anything
  * else: where they differ, header and archive are not of one core, and nothing said here holds of the archive.
  */
-#define MILEAGE_VERSION UINT32_C(3)
+#define MILEAGE_VERSION UINT32_C(4)
 
 uint32_t mileage_version(void);
 
@@ -45,13 +45,14 @@ uint32_t mileage_version(void);
 #define MILEAGE_ROW_NUMBERS 50
 
 /* Limits: n, the units of a bike, numbered from 0; the entry, one for each service; the round, from 0 (MILEAGE_LAST_ROUND
- * below is a refusal, and no round); the mileage, from 0, in hundred-metre steps; the rows of a card, numbered from 1. */
+ * below is a refusal, and no round); the mileage, from 0, in the steps that all units of a bike share, of ten metres or of
+ * a hundred; the rows of a card, numbered from 1. */
 #define MILEAGE_MIN_UNITS UINT32_C(3)
 #define MILEAGE_MAX_UNITS UINT32_C(16)
 #define MILEAGE_MIN_ENTRY UINT32_C(1)
 #define MILEAGE_MAX_ENTRY UINT32_C(9999)
 #define MILEAGE_MAX_ROUND UINT32_C(9999)
-#define MILEAGE_MAX_MILEAGE UINT32_C(9999999)
+#define MILEAGE_MAX_MILEAGE UINT32_C(99999999)
 #define MILEAGE_MIN_ROWS UINT32_C(1)
 #define MILEAGE_MAX_ROWS UINT32_C(64)
 
@@ -93,6 +94,11 @@ uint32_t mileage_version(void);
  * - Which log and image to lend: those of the message's entry; as log a copy, in working memory, of the last one that went
  *   to permanent memory, never that memory itself (a call writes in pieces); as image the one that the last call on this
  *   entry left. Calls on one entry come one after the other.
+ * - All units of one bike count mileages in the same steps, of ten metres or of a hundred, and an entry goes on in the steps
+ *   in which it was begun, over a change of firmware too. The core only compares mileages: it cannot see in which steps they
+ *   are.
+ * - All units of one bike have a core of one version. A core before version 4 refuses mileages above 9,999,999, in messages
+ *   with 4 and in logs with 2.
  * - To propose a mileage, or to try again after some time without a decision: mileage_propose, as often as you like, with
  *   any mileage in range. The log stays as it is. Each unit that gets this FIRST and is not past its round sends its vote,
  *   for the first time or again, so that one whose key went off before its message left is heard after all: in R a SECOND,

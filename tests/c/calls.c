@@ -29,9 +29,9 @@ static const struct { const char *message, *hex; } message_bytes[] = {
 #define FF16 FF4 FF4 FF4 FF4
 static const struct { const char *image, *hex; } image_bytes[] = {
     {"B 3 0 7 0 - - -", "42 03 00 00 0007 0000" FF FF FF "0000" FF16 "0000" FF16},
-    {"B 16 2 4660 9029 1193046 0 - C0=5 C8=412077 C15=9999999 S1=! S14=9",
+    {"B 16 2 4660 9029 1193046 0 - C0=5 C8=412077 C15=99999999 S1=! S14=9",
      "42 10 02 00 1234 2345 00123456 00000000" FF
-     "8101 00000005" FF4 FF FF FF "000649ad" FF4 FF FF "0098967f"
+     "8101 00000005" FF4 FF FF FF "000649ad" FF4 FF FF "05f5e0ff"
      "4002" FF "fffffffe" FF4 FF4 FF4 "00000009" FF},
 };
 
@@ -135,6 +135,7 @@ static void check_key_ons(void)
 {
     static const char *const logs[] = {
         "B 3 0 7 0 - - -", "B 3 1 7 4 9 8 6", "B 3 1 7 4 9 - 6", "B 3 1 7 4 - 8 !", "R 16 15 9999 9999 - 0 -", "R 4 2 1 256 5 - -",
+        "B 3 1 7 4 10000000 10000000 10000000", "R 16 15 9999 9999 99999999 10000000 -", "B 5 0 1 255 9 99999999 99999999",
     };
 
     for (size_t i = 0; i < COUNT(logs); i++) {

@@ -150,17 +150,17 @@ static inline void deliver_on(uint32_t u, const uint8_t *message, bool cut)
     send_on(done.bytes[OUT]);
 }
 
-/* Any course of events: messages lost, late and doubled, keys off at any time. */
+/* Any course of events: messages lost, late and doubled, keys off at any time. The mileages are two, one step apart. */
 static inline void check_history(const uint32_t *entries, size_t entry_count, size_t count)
 {
-    uint32_t n = one_of(VALUES(3, 3, 4, 5, 7, 16));
+    uint32_t n = one_of(VALUES(3, 3, 4, 5, 7, 16)), mileage = one_of(VALUES(400000, 9999999, 99999998));
 
     start_bike(below(2) ? 'B' : 'R', n, count, entries, entry_count);
     for (uint32_t events = 40 * n; events > 0 && bike.sent_count < PLACES; events--) {
         uint32_t u = below(n), event = below(20), newest = (uint32_t)bike.sent_count, late = newest > 3 * n ? newest - 3 * n : 0;
 
         if (event == 0 || bike.sent_count == 0)
-            propose_on(u, one_of(entries, entry_count), 400000 + below(2));
+            propose_on(u, one_of(entries, entry_count), mileage + below(2));
         else if (event == 1)
             key_on_again(u, one_of(entries, entry_count));
         else

@@ -39,14 +39,16 @@ static const struct card_fault {
 } card_faults[] = {
     {1, ROW_COUNT, 0, 0, S | K | P | D}, {1, ROW_COUNT, 0, 65, S | K | P | D}, {1, MESSAGE_LENGTH, 0, 17, D}, {1, MESSAGE_LENGTH, 0, 19, D},
     {1, OUT_LENGTH, 0, 17, P | D}, {1, OUT_LENGTH, 0, 19, P | D},
-    {4, MESSAGE_BYTE, 0, 'Z', D}, {4, MESSAGE_BYTE, 5, 1, D}, {4, MESSAGE_BYTE, 6, 255, D},
+    {4, MESSAGE_BYTE, 0, 'Z', D}, {4, MESSAGE_BYTE, 5, 1, D}, {4, MESSAGE_BYTE, 6, 255, D}, {4, MESSAGE_BYTE, 10, 6, D},
     {12, ROW_NUMBER, 0, 0, S | K | P}, {12, ROW_NUMBER, 0, 9, S | K | P}, {12, ROW_NUMBER, 0, UINT32_MAX, S | K | P}, {12, MESSAGE_BYTE, 7, 9, D},
     {2, BESIDE_ENGINE, 0, 'Q', S | K | P | D}, {2, BESIDE_N, 0, 2, S | K | P | D}, {2, BESIDE_N, 0, 259, S | K | P | D},
-    {2, BESIDE_UNIT, 0, 3, S | K | P | D}, {2, IN_ROW, 0, 0, K | P | D}, {2, IN_ROW, 4, 10000, K | P | D}, {2, IN_ROW, 7, 10000000, K | P | D},
+    {2, BESIDE_UNIT, 0, 3, S | K | P | D}, {2, IN_ROW, 0, 0, K | P | D}, {2, IN_ROW, 4, 10000, K | P | D},
+    {2, IN_ROW, 5, 100000000, K | P | D}, {2, IN_ROW, 6, 100000000, K | P | D}, {2, IN_ROW, 7, 100000000, K | P | D},
     {3, IN_ROW, 1, 4, K | P | D}, {3, IN_ROW, 2, 2, K | P | D}, {3, IN_ROW, 3, 8, K | P | D}, {3, IN_ROW, 8, 0, P | D}, {3, IN_ROW, 12, 9998, P | D},
     {3, IN_ROW, 14, 5, P | D}, {3, IN_ROW, 16, 65536, P | D}, {3, IN_ROW, 33, 65540, P | D}, {3, IN_ROW, 34, 0, P | D}, {3, IN_ROW, 49, 0, P | D},
+    {3, IN_ROW, 13, 100000000, P | D}, {3, IN_ROW, 36, 100000000, P | D},
     {5, MESSAGE_BYTE, 1, 'R', D}, {5, MESSAGE_BYTE, 2, 4, D},
-    {6, GIVEN_MILEAGE, 0, 10000000, P},
+    {6, GIVEN_MILEAGE, 0, 100000000, P},
 };
 
 static inline void put_fault(struct card_call *call, const struct card_fault *fault)
@@ -191,7 +193,7 @@ static inline void check_no_row(enum which which, size_t count, uint32_t row)
     message_words("S R 16 15 * 1 9999 5 5", before.message);
     put(before.message + 6, 2, row);
     before.engine = 'Q';
-    before.mileage = 10000000;
+    before.mileage = 100000000;
     if (which != DELIVER || entry)
         card_must_refuse("no row", &before, MILEAGE_NO_ROW);
     else

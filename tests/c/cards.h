@@ -68,9 +68,9 @@ static inline mileage_row row_of(const uint8_t *log, const uint8_t *image)
 /* A call on a card where no row is anything yet. */
 static inline struct card_call new_card_call(enum which which, size_t count, uint32_t row)
 {
-    struct card_call call = {.which = which, .rest = true, .engine = 'B', .n = 3, .unit = 1, .row = row, .mileage = 9999999,
-                             .decision = below(UINT32_MAX), .count = count, .message_len = MILEAGE_MESSAGE_LENGTH,
-                             .out_len = MILEAGE_MESSAGE_LENGTH};
+    struct card_call call = {.which = which, .rest = true, .engine = 'B', .n = 3, .unit = 1, .row = row,
+                             .mileage = 99999999, .decision = below(UINT32_MAX), .count = count,
+                             .message_len = MILEAGE_MESSAGE_LENGTH, .out_len = MILEAGE_MESSAGE_LENGTH};
 
     memset(call.message, (int)below(256), sizeof call.message);
     memset(call.out, (int)below(256), sizeof call.out);

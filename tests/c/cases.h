@@ -21,7 +21,8 @@ struct values {
     size_t count;
 };
 
-/* Values in and out of each range, its ends first. A sum is in range only if cut to one or two bytes. */
+/* Values in and out of each range, its ends first. A sum is in range only if cut to one or two bytes. The last mileages are
+ * those at the end that the range had in versions before 4, and the last of three bytes and the first of four. */
 #define NO_KIND 0, 'B', 'Z', 'f', 'c', 's', 'k', 255, 'F' + 65536, 'C' + 65536, 'S' + 65536, 'K' + 65536
 #define NO_ENGINE 0, 'A', 'C', 'Q', 'S', 'b', 'r', 255, 'B' + 65536, 'R' + 65536
 #define NO_N 2, 17, 0, 255, 3 + 256, 16 + 65536, BLANK
@@ -31,8 +32,8 @@ struct values {
 #define NO_ENTRY 0, 10000, 65535, 1 + 65536, 9999 + 65536, BLANK
 #define ROUNDS 0, 9999, 255, 256
 #define NO_ROUND 10000, 65535, 0 + 65536, 9999 + 65536, BLANK
-#define MILEAGES 0, 9999999, 65535, 65536
-#define NO_MILEAGE 10000000, 2147483648, 4294967293
+#define MILEAGES 0, 99999999, 65535, 65536, 9999999, 10000000, 16777215, 16777216
+#define NO_MILEAGE 100000000, 2147483648, 4294967293
 #define NOT_412077 412076, 412078, 412077 + 65536, 412077 + 16777216, MILEAGES, NO_MILEAGE, SPLIT, BLANK
 
 /* Random numbers: xorshift with a fixed seed, so every run makes the same cases. */

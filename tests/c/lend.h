@@ -164,7 +164,7 @@ static inline void must_hold(const char *title, const struct call *before, const
         fail(title, "an image whose first 20 bytes do not read");
     if (sends && !is_message(given->bytes[OUT]))
         fail(title, "a message that does not read");
-    if (given->which == DELIVER && given->decision != BLANK && given->decision > 9999999)
+    if (given->which == DELIVER && given->decision != BLANK && given->decision > 99999999)
         fail(title, "a decision that is no mileage");
 }
 

@@ -143,7 +143,7 @@ static inline struct call base_call(enum which which, size_t base)
     log_words(bases[base].log, call.bytes[LOG]);
     image_words(bases[base].image, call.bytes[IMAGE]);
     message_words(bases[base].message, call.bytes[MESSAGE]);
-    call.given[MILEAGE] = 9999999;
+    call.given[MILEAGE] = 99999999;
     return call;
 }
 
@@ -247,7 +247,7 @@ static inline uint32_t put_faults(struct call *call, uint32_t set, uint32_t numb
         if (fault->number == 1)
             call->length[fault->buffer]--;
         else if (fault->number == 6)
-            call->given[MILEAGE] = 10000000;
+            call->given[MILEAGE] = 100000000;
         else
             call->bytes[fault->buffer][fault->at] = fault->byte;
         if (seen && (number == 0 || fault->number < number))

@@ -48,7 +48,8 @@ static void check_card(void)
     must(mileage_card_key_on('B', 4, 0, again, 3, 2) == 3, "a refused key_on of a row");
     must(mileage_card_key_on('B', 3, 0, again, 3, 2) == 0 && memcmp(&rows[1], &again[1], sizeof *rows) == 0, "key_on of a row");
     must(mileage_card_propose('B', 3, 0, rows, 3, 2, 412077, first, 18) == 0 && sum(first, 18) && sum(&rows[1], sizeof *rows), "propose on a row");
-    must(mileage_card_propose('B', 3, 0, rows, 3, 2, 10000000, none, 18) == 6 && sum(none, 18) == 18, "a refused proposal on a row");
+    must(mileage_card_propose('B', 3, 0, rows, 3, 2, 100000000, none, 18) == 6 && sum(none, 18) == 18,
+         "a refused proposal on a row");
     must(mileage_card_deliver('B', 3, 0, rows, 3, first, 18, out, 18, decision) == 0 && sum(out, 18) && *decision == MILEAGE_BLANK
              && sum(&rows[1], sizeof *rows), "deliver on a row");
     must(mileage_card_deliver('B', 3, 0, rows, 3, first, 18, again_out, 18, again_decision) == 0 && sum(again_out, 18)
@@ -72,7 +73,7 @@ int main(void)
     must(mileage_start('B', 3, 0, 7, log, 20, image, 152) == 0 && sum(log, 20) && sum(image, 152), "start");
     must(mileage_key_on(log, 20, again, 152) == 0 && memcmp(image, again, 152) == 0, "key_on");
     must(mileage_propose(log, 20, image, 152, 412077, first, 18) == 0 && sum(first, 18), "propose");
-    must(mileage_propose(log, 20, image, 152, 10000000, none, 18) == 6 && sum(none, 18) == 18, "a refused proposal");
+    must(mileage_propose(log, 20, image, 152, 100000000, none, 18) == 6 && sum(none, 18) == 18, "a refused proposal");
     must(mileage_deliver(log, 20, image, 152, first, 18, out, 18, decision) == 0 && sum(out, 18) && *decision == MILEAGE_BLANK, "deliver");
     must(mileage_deliver(log, 20, image, 152, first, 18, again_out, 18, again_decision) == 0 && sum(again_out, 18)
              && memcmp(out, again_out, 18) == 0 && *again_decision == MILEAGE_BLANK && sum(log, 20) && sum(image, 152), "a FIRST again");

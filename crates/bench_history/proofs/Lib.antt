@@ -8,3 +8,4 @@ pub mod OwnCalls
 pub mod Rounds
 pub mod Theorem
 pub mod Scripts
+pub mod Wider

@@ -11,7 +11,7 @@ use borrow.Author.Tests.{eqb-true, eqb-false}
 use Rattle.tally.specs.Limits.{Limits, places, senders}
 use Rattle.tally.specs.Refusal.{number_of}
 use Rattle.tally.proofs.Never.{never}
-use Rattle.contents.specs.Messages.{message_ok, empty_message}
+use Rattle.contents.specs.Messages.{empty_message}
 use Rattle.contents.specs.declared.Kind.{Kind}
 use Rattle.contents.specs.declared.Message.{Message}
 use Rattle.consensus.specs.Methods.{closes_last, propose_conditions, propose, deliver_conditions, deliver, key_off, key_on}
@@ -23,8 +23,6 @@ use Rattle.consensus.specs.declared.Unit as U
 use Rattle.consensus.proofs.Branches.{by_kind, by_check, by_second, by_round, by_unless}
 use Rattle.consensus.proofs.Refusals.{closes_next}
 use Rattle.agreement.specs.Contents.{begun}
-use Rattle.agreement.proofs.Follows.{sent_in}
-use Rattle.agreement.proofs.History.{from_unit}
 use Rattle.script.specs.Script.{event_unit, in_ranges}
 use Rattle.script.specs.declared.ScriptEvent.{ScriptEvent}
 use Rattle.script.specs.declared.Header.{Header}
@@ -32,16 +30,15 @@ use Rattle.bench_play.specs.Bench.{LineAnswer, start, no_unit, unit_at, message_
 use Rattle.bench_play.specs.Play.{Played, delivery, answer, play, bench_after, unit_answer}
 use Rattle.bench_play.specs.declared.Bench.{Bench}
 use Rattle.bench_play.specs.Claims.{Sized}
-use Rattle.bench_history.specs.History.{setup_of, Below, contents_after}
+use Rattle.bench_history.specs.History.{Below}
 use Rattle.bench_history.specs.Covered.{met}
 use Rattle.bench_play.proofs.Accepting.{Accepts, delivered, cut_accepted, off_accepted, on_accepted}
-use Rattle.bench_history.proofs.Accepted.{sent_at}
 use Rattle.bench_history.proofs.Lists.{at_in}
 use Rattle.bench_play.proofs.Numbers.{of_unit_lem}
 use Rattle.bench_play.proofs.PlayedLines.{unit_set, sized_answer, start_sized, reached_sized, line_played}
 use Rattle.bench_history.proofs.Lines.{below_parts}
 use Rattle.bench_play.proofs.Settled.{by_answer}
-use Rattle.bench_history.proofs.Simulation.{units_high, start_shows, simulated, after_inv}
+use Rattle.bench_history.proofs.Simulation.{units_high, start_shows, kept_well_formed}
 
 -- ---- a step
 
@@ -183,12 +180,6 @@ module _ (l : Limits) (h : Header) (range : in_ranges h.n h.entry ≡ true) wher
             (reached_sized h l es).kept,
           )
 
-      well_formed : (k : ℕ) → k < b.kept → message_ok l (message_at b k) ≡ true
-      well_formed k sent =
-          let w = contents_after l h es in
-          let there = sent_at l h.n b (reached_sized h l es) _ w (simulated h range l es below) k sent in
-          (from_unit l (setup_of h) w (after_inv h range l es below) (message_at b k) (sent_in w.sent k (message_at b k) there)).well_formed
-
       answer_met : (e : ScriptEvent) → event_unit e < h.n → Memᴰ (number_of (answer l b e).refusal) met
       answer_met e at =
           by_answer (λ (r : LineAnswer). Memᴰ (number_of r.refusal) met) l b e
@@ -212,7 +203,7 @@ module _ (l : Limits) (h : Header) (range : in_ranges h.n h.entry ≡ true) wher
                 mileage = is 2 (omega arith);
                 unsent = is 5 (omega arith);
                 addressee = is 1 (omega arith);
-                message = λ k sent bad. never (sym bad ∙ well_formed k sent);
+                message = λ k sent bad. never (sym bad ∙ kept_well_formed h range l es below k sent);
                 last = λ k sent closes. absurd (never_last (event_unit e) at k sent closes);
               })
 

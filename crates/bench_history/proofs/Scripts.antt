@@ -37,11 +37,11 @@ InRange h = in_ranges h.n h.entry ≡ true
 
 -- ---- the script
 
-abbrev ScriptIn : Script → Type 0
+abbrev pub ScriptIn : Script → Type 0
 ScriptIn malformed = Unit
 ScriptIn (script h es) = InRange h × Below h.n es
 
-script_in : (s : List ℕ) → ScriptIn (parse s)
+pub script_in : (s : List ℕ) → ScriptIn (parse s)
 unfolding parse
 script_in s = lines (parted newline s)
   where

@@ -14,6 +14,7 @@ use Rattle.tally.specs.Limits.{Limits, places, senders}
 use Rattle.tally.specs.Refusal.{number_of}
 use Rattle.tally.specs.declared.Refusal.{Refusal}
 use Rattle.contents.specs.Logs.{settings_ok}
+use Rattle.contents.specs.Messages.{message_ok}
 use Rattle.contents.specs.declared.Kind.{Kind}
 use Rattle.contents.specs.declared.Kind.TheVariants.{Empty, First, Check, Second, Skip}
 use Rattle.contents.specs.declared.Message.{Message}
@@ -22,21 +23,22 @@ use Rattle.consensus.specs.declared.Answer.{Answer}
 use Rattle.consensus.proofs.Parts.{and_both}
 use Rattle.agreement.specs.Contents.{ContentsWorld, begun, unless_empty, step}
 use Rattle.agreement.specs.Worlds.{run, settings_of}
-use Rattle.agreement.proofs.History.{Inv, added, run_append, run_inv, begun_inv}
+use Rattle.agreement.proofs.Follows.{sent_in}
+use Rattle.agreement.proofs.History.{Inv, added, run_append, run_inv, begun_inv, from_unit}
 use Rattle.script.specs.Script.{event_unit, in_ranges}
 use Rattle.script.specs.declared.ScriptEvent.{ScriptEvent}
 use Rattle.script.specs.declared.Header.{Header}
 use Rattle.script.proofs.HeaderLines.{ranges}
 use Rattle.bench_play.specs.Bench as P
-use Rattle.bench_play.specs.Bench.{LineAnswer, fresh_units, start, no_unit, unit_at, refused, accepted, with_unit, with_message}
+use Rattle.bench_play.specs.Bench.{LineAnswer, fresh_units, start, no_unit, unit_at, message_at, refused, accepted, with_unit, with_message}
 use Rattle.bench_play.specs.Play.{Played, answer, play, bench_after, unit_answer}
 use Rattle.bench_play.specs.declared.Bench.{Bench}
 use Rattle.bench_history.specs.History.{setup_of, Below, of_accepted, contents_event, history, event_proposals, proposals, decided_of, decisions, Shows}
 use Rattle.bench_history.specs.History.{contents_after}
 use Rattle.bench_play.specs.Claims.{Sized}
-use Rattle.bench_history.proofs.Accepted.{Went, went}
+use Rattle.bench_history.proofs.Accepted.{Went, went, sent_at}
 use Rattle.bench_history.proofs.Lists.{flat_snoc}
-use Rattle.bench_play.proofs.PlayedLines.{played, unit_set, sized_answer, fresh_length, start_sized}
+use Rattle.bench_play.proofs.PlayedLines.{played, unit_set, sized_answer, fresh_length, start_sized, reached_sized}
 use Rattle.bench_play.proofs.Settled.{by_answer}
 
 -- ---- one line
@@ -168,3 +170,11 @@ module _ (h : Header) (range : in_ranges h.n h.entry ≡ true) where
     pub after_inv : Inv l (setup_of h) (contents_after l h es)
     unfolding contents_after
     after_inv = run_inv l (setup_of h) (begun (setup_of h)) (history l (start h) es) (begun_inv l (setup_of h) settings_ok_lem)
+
+    -- the messages kept are well formed
+    pub kept_well_formed : (k : ℕ) → k < (bench_after l (start h) es).kept → message_ok l (message_at (bench_after l (start h) es) k) ≡ true
+    kept_well_formed k sent =
+        let b = bench_after l (start h) es in
+        let w = contents_after l h es in
+        let there = sent_at l h.n b (reached_sized h l es) _ w simulated k sent in
+        (from_unit l (setup_of h) w after_inv (message_at b k) (sent_in w.sent k (message_at b k) there)).well_formed

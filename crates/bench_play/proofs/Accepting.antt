@@ -19,7 +19,6 @@ use Rattle.consensus.specs.declared.Power.{Power}
 use Rattle.consensus.specs.declared.Power.TheVariants.{Down, Up}
 use Rattle.consensus.specs.declared.Unit as U
 use Rattle.consensus.proofs.Answers.{deliver_power}
-use Rattle.consensus.proofs.Order.{first_lowest}
 use Rattle.consensus.proofs.Refusals.{propose_down}
 use Rattle.script.specs.declared.ScriptEvent.{ScriptEvent}
 use Rattle.bench_play.specs.Bench.{LineAnswer, unit_at, message_at}
@@ -57,8 +56,7 @@ unfolding delivery delivery_conditions
 delivered l b u k zero =
     let conditions = delivery_conditions (unit_at b u) b.kept k in
     let a = unless_accepts conditions (unit_at b u) (deliver l (unit_at b u) (message_at b k)) zero in
-    let none = (first_lowest conditions (omega arith, (omega arith, tt))).accepted a.0 in
-    record { up = is_up_lem _ (not-false _ none.0); sent = leb-false _ _ none.1.0; same = a.1 }
+    record { up = is_up_lem _ (not-false _ a.0.0); sent = leb-false _ _ a.0.1.0; same = a.1 }
 
 -- 9 before 10, whatever the message; and 10 before the unit's own numbers
 pub delivery_down : (l : Limits) (b : Bench) (u k : ℕ) → (unit_at b u).power ≡ Down → delivery l b u k ≡ refuses (unit_at b u) (Some Refusal.Power)
@@ -104,7 +102,7 @@ pub on_accepted : (x : U.Unit) → Accepts (key_on x) → (x.power ≡ Down) × 
 unfolding key_on
 on_accepted x zero =
     let a = unless_accepts _ x _ zero in
-    (is_down_lem _ ((first_lowest _ (omega arith, tt)).accepted a.0).0, a.1)
+    (is_down_lem _ a.0.0, a.1)
 
 -- unless 11 refuses it, the number of a line is its unit's own
 pub own_number : (l : Limits) (b : Bench) (e : ScriptEvent) → ((answer l b e).refusal ≡ Some Refusal.Full → ⊥)

@@ -2,3 +2,4 @@ pub mod Accepting
 pub mod Numbers
 pub mod PlayedLines
 pub mod Settled
+pub mod Wider

@@ -135,6 +135,13 @@ line_played l b (e ∷ es) p h = go (Memᴰ.cases_cons h) (line_played l (answer
         let r = later h in
         record { before = e ∷ r.before; after = r.after; split = ap (λ xs. e ∷ xs) r.split; answer = r.answer }
 
+-- and each line is played after those before it
+pub line_there : (l : Limits) (b : Bench) (before : List ScriptEvent) (e : ScriptEvent) (later : List ScriptEvent)
+    → Memᴰ (played e (answer l (bench_after l b before) e)) (play l b (before ++ (e ∷ later)))
+unfolding play bench_after
+line_there l b [] e later = Memᴰ.head refl
+line_there l b (x ∷ before) e later = Memᴰ.tail (line_there l (answer l b x).bench before e later)
+
 -- ---- counts
 
 -- as many lines are played as the script has

@@ -14,7 +14,8 @@ use Rattle.contents.specs.Messages.{is_empty}
 use Rattle.contents.specs.declared.Kind.{Kind}
 use Rattle.contents.specs.declared.Kind.TheVariants.{Empty, First, Check, Second, Skip}
 use Rattle.consensus.specs.Methods.{refuses, unless}
-use Rattle.consensus.specs.Conditions.{Condition, first_refusal}
+use Rattle.consensus.specs.Conditions.{Condition, first_refusal, NoneHolds}
+use Rattle.consensus.proofs.Given.{answer_given}
 use Rattle.consensus.specs.declared.Answer.{Answer}
 use Rattle.consensus.specs.declared.Unit as U
 use Rattle.script.specs.Script.{event_unit}
@@ -71,11 +72,6 @@ by_answer P l b e s = by_settle P b (event_unit e) (unit_answer l b e) s
 
 -- a method whose number is 0 is the step's answer
 pub unless_accepts : (cs : List Condition) (u : U.Unit) (a : Answer) → number_of (unless cs u a).refusal ≡ 0
-    → (number_of (first_refusal cs) ≡ 0) × (unless cs u a ≡ a)
+    → NoneHolds cs × (unless cs u a ≡ a)
 unfolding unless
-unless_accepts cs u a = go (eqb (number_of (first_refusal cs)) 0) refl
-  where
-    go : (t : Bool) → eqb (number_of (first_refusal cs)) 0 ≡ t → number_of (cond t a (refuses u (first_refusal cs))).refusal ≡ 0
-        → (number_of (first_refusal cs) ≡ 0) × (cond t a (refuses u (first_refusal cs)) ≡ a)
-    go true e h = (eqb-true _ _ e, refl)
-    go false e h = absurd (eqb-false _ _ e h)
+unless_accepts cs u a zero = answer_given (λ (x : Answer). number_of x.refusal) cs a (refuses u (first_refusal cs)) refl zero

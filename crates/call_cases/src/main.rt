@@ -170,13 +170,13 @@ fn examples<P: Print>(rt: &P) -> io::Result<()> {
     Ok(())
 }
 
-// Of 6, and 9,999,999 beside it.
+// Of 6, and 99,999,999 beside it.
 fn mileages<P: Print>(rt: &P) -> io::Result<()> {
     let mut unit = PrintedUnit::new(rt);
     unit.log = blank_log(2, 0);
     unit.key_on("unit 2 at round 0")?;
-    unit.propose("6: 10,000,000", limits::MAX_MILEAGE + 1)?;
-    unit.propose("9,999,999 is accepted", limits::MAX_MILEAGE)?;
+    unit.propose("6: 100,000,000", limits::MAX_MILEAGE + 1)?;
+    unit.propose("99,999,999 is accepted", limits::MAX_MILEAGE)?;
     Ok(())
 }
 

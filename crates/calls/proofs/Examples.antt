@@ -240,9 +240,11 @@ cases =
     ∷ gives (deliver (six_b 0) (image (six_b 0) (tally 1 (mileage 5)) (tally 0 [])) (in_b C 1 0 (mileage 9) (mileage 9)) (junk 18))
     (unit_b 0 (mileage 6) blank split) (unit_b 0 (mileage 6) blank split) (in_b S 0 0 split (mileage 6)) none
     ∷ gives (deliver (six_b 0) (image (six_b 0) (tally 0 []) (tally 1 split)) (in_b S 1 0 split blank) (junk 18)) (six_b 0) (six_b 1) zeros none
-    -- mileage 9,999,999 is accepted, with its FIRST, and 10,000,000 refused: 6
-    ∷ gives (propose_to fresh_b 9999999) fresh_b (unit_b 0 (mileage 9999999) blank blank) (in_b F 0 0 (mileage 9999999) (mileage 9999999)) none
-    ∷ refused 6 zeros (propose_to fresh_b 10000000)
+    -- mileage 99,999,999 is accepted, with its FIRST, and 100,000,000 refused: 6; a FIRST of 99,999,999 is taken
+    ∷ gives (propose_to fresh_b 99999999) fresh_b (unit_b 0 (mileage 99999999) blank blank) (in_b F 0 0 (mileage 99999999) (mileage 99999999)) none
+    ∷ refused 6 zeros (propose_to fresh_b 100000000)
+    ∷ gives (to_fresh (in_b F 1 0 (mileage 99999999) (mileage 99999999))) (unit_b 0 blank (mileage 99999999) blank)
+    (unit_b 0 blank (mileage 99999999) blank) (in_b C 0 0 (mileage 99999999) (mileage 99999999)) none
     -- the table's examples, 1: message of 17 bytes; then every buffer of every call, too short or too long
     ∷ refused 1 zeros (deliver_to fresh_b (take 17 first))
     ∷ refused 1 zeros (deliver_to fresh_b (first ++ two 0))
@@ -266,7 +268,7 @@ cases =
     ∷ refused 2 [] (key_on (log R 4 0 0 blank blank (mileage 5)) (junk 152))
     ∷ refused 2 [] (key_on (unit_b 0 split blank blank) (junk 152))
     ∷ refused 2 [] (key_on (unit_b 0 blank split blank) (junk 152))
-    ∷ refused 2 [] (key_on (unit_b 0 (mileage 10000000) blank blank) (junk 152))
+    ∷ refused 2 [] (key_on (unit_b 0 (mileage 100000000) blank blank) (junk 152))
     ∷ refused 2 [] (key_on (unit_b 10000 blank blank blank) (junk 152))
     ∷ refused 2 [] (key_on (take 3 fresh_b ++ (1 ∷ drop 4 fresh_b)) (junk 152))
     ∷ refused 2 [] (key_on bad (junk 152))
@@ -274,7 +276,7 @@ cases =
     ∷ refused 2 zeros (deliver_to bad first)
     -- 3: log at round 4, image at 3; an estimate that does not fit, at the log's round and above it; another unit's image; an image with a quorum
     -- of marks, with a CHECK mark beside a second estimate, and with one in R; a split CHECK, a split SECOND in R; a marked blank, an unmarked
-    -- mileage; unit 3 of 3 marked
+    -- mileage; a CHECK and a SECOND out of range; unit 3 of 3 marked
     ∷ refused 3 zeros (deliver (six_b 4) (unmarked (six_b 3)) first (junk 18))
     ∷ refused 3 zeros (propose fresh_b (unmarked (unit_b 0 blank (mileage 5) blank)) 5 (junk 18))
     ∷ refused 3 zeros (propose fresh_b (unmarked (unit_b 1 blank (mileage 5) blank)) 5 (junk 18))
@@ -287,10 +289,12 @@ cases =
     ∷ refused 3 zeros (propose six_r (image six_r (tally 0 []) (tally 1 split)) 5 (junk 18))
     ∷ refused 3 zeros (beside (tally 1 blank) (tally 0 []))
     ∷ refused 3 zeros (beside (tally 0 []) (tally 0 (mileage 5)))
+    ∷ refused 3 zeros (beside (tally 1 (mileage 100000000)) (tally 0 []))
+    ∷ refused 3 zeros (beside (tally 0 []) (tally 1 (mileage 100000000)))
     ∷ refused 3 zeros (beside (tally 0 []) (tally 8 (blank ++ (blank ++ (blank ++ mileage 5)))))
     -- 4: kind letter Z; the empty message; F, C and S to a single unit; K to everyone, and to unit 3 of 3; K with an estimate; F and C with two
-    -- mileages, F with blanks; C in R; S with a blank, and in R with a split estimate; S and K with a split proposal; sender 3 of 3, round
-    -- 10,000, a zero byte that is 1
+    -- mileages, F with blanks and out of range; C in R; S with a blank, and in R with a split estimate; S and K with a split proposal; sender 3
+    -- of 3, round 10,000, a zero byte that is 1
     ∷ refused 4 zeros (to_fresh (in_b Z 1 0 (mileage 5) (mileage 5)))
     ∷ refused 4 zeros (to_fresh zeros)
     ∷ refused 4 zeros (to_fresh (to_one F 0 0 (mileage 5) (mileage 5)))
@@ -302,6 +306,7 @@ cases =
     ∷ refused 4 zeros (to_fresh (in_b C 1 0 (mileage 5) (mileage 6)))
     ∷ refused 4 zeros (to_fresh (to_one K 3 4 blank blank))
     ∷ refused 4 zeros (to_fresh (in_b F 1 0 blank blank))
+    ∷ refused 4 zeros (to_fresh (in_b F 1 0 (mileage 100000000) (mileage 100000000)))
     ∷ refused 4 zeros (deliver_to six_r (in_r C 1 (mileage 5) (mileage 5)))
     ∷ refused 4 zeros (to_fresh (in_b S 1 0 blank blank))
     ∷ refused 4 zeros (deliver_to six_r (in_r S 1 split blank))

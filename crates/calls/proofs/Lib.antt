@@ -7,4 +7,5 @@ pub mod Encoded
 pub mod Stored
 pub mod Unwritten
 pub mod Unread
+pub mod Wider
 pub mod Examples

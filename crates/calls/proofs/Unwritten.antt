@@ -2,29 +2,29 @@
 use Rattle.std.proofs.lemmas.Bool.{and_parts}
 use Prim.Native.Nat.{ℕ, ◌<◌}
 use mathlib.Core.Path.{◌≡◌, refl, ap, ◌∙◌}
-use mathlib.Core.Bool.{Bool, true, false, cond}
+use mathlib.Core.Bool.{true}
 use mathlib.Core.List.{List}
 use lib.Dec.{eqb}
-use borrow.Author.Tests.{eqb-false, not-false}
-use Rattle.tally.specs.Limits.{Limits, Sane, blank_code}
-use Rattle.tally.specs.Refusal.{number_of}
+use borrow.Author.Tests.{not-false}
+use Rattle.tally.specs.Limits.{Limits, Sane}
 use Rattle.contents.specs.Images.{fits}
 use Rattle.contents.specs.declared.Message.{Message}
 use Rattle.formats.specs.Images.{image_format, read_image, image_bytes}
 use Rattle.formats.specs.Logs.{log_format, read_log}
-use Rattle.formats.specs.Messages.{read_message, cleared}
+use Rattle.formats.specs.Messages.{read_message}
 use Rattle.formats.specs.Numbers.{Bytes}
 use Rattle.formats.proofs.ImageFormat as images
 use Rattle.formats.proofs.LogFormat as logs
 use Rattle.formats.proofs.RoundTrips.{written_read}
-use Rattle.consensus.specs.Conditions.{Condition, first_refusal, NoneHolds}
+use Rattle.consensus.specs.Conditions.{Condition, NoneHolds}
 use Rattle.consensus.specs.Step.{received}
 use Rattle.consensus.specs.Units.{unit_log, unit_image}
 use Rattle.consensus.specs.declared.Answer.{Answer}
 use Rattle.consensus.specs.declared.Unit as U
+use Rattle.consensus.proofs.Given.{answer_given}
 use Rattle.consensus.proofs.Laws.{received_below}
 use Rattle.consensus.proofs.Repeats.{Repeats, again}
-use Rattle.calls.specs.Calls.{CallAnswer, called, unless_refused, bad_log, bad_image, log_bytes, unit_of, deliver_call_conditions, deliver_call}
+use Rattle.calls.specs.Calls.{CallAnswer, unless_refused, bad_log, bad_image, log_bytes, unit_of, deliver_call_conditions, deliver_call}
 use Rattle.formats.proofs.Steps.{was_read}
 use Rattle.calls.proofs.Held.{fit_image}
 use Rattle.calls.proofs.Refusals.{deliver_refusing}
@@ -32,14 +32,7 @@ use Rattle.calls.proofs.Refusals.{deliver_refusing}
 -- a call whose number is 0 gives its answer
 answers : (l : Limits) (cs : List Condition) (log image out : List ℕ) (ok : CallAnswer) → (unless_refused l cs log image out ok).number ≡ 0
     → unless_refused l cs log image out ok ≡ ok
-answers l cs log image out ok = go (eqb (number_of (first_refusal cs)) 0) refl
-  where
-    refused : CallAnswer
-    refused = called (number_of (first_refusal cs)) log image (cleared l out) blank_code
-
-    go : (b : Bool) → eqb (number_of (first_refusal cs)) 0 ≡ b → (cond b ok refused).number ≡ 0 → cond b ok refused ≡ ok
-    go true e h = refl
-    go false e h = absurd (eqb-false (number_of (first_refusal cs)) 0 e h)
+answers l cs log image out ok number = (answer_given (λ (c : CallAnswer). c.number) cs ok _ refl number).1
 
 module _ (l : Limits) (sane : Sane l) (log image message out : List ℕ) (number : (deliver_call l log image message out).number ≡ 0) where
   cs : NoneHolds (deliver_call_conditions l log image message out)

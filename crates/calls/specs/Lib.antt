@@ -1,4 +1,5 @@
 pub mod Fields
 pub mod Calls
+pub mod Wider
 pub mod InnerFields
 pub mod InnerCalls

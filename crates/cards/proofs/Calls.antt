@@ -1,5 +1,4 @@
 -- The laws of the four calls on a card, over their own definitions. Assumes nothing.
-use Rattle.std.specs.Prelude.{Some}
 use Rattle.std.proofs.lemmas.Bool.{and_parts, or_parts}
 use Prim.Native.Nat.{ℕ, zero, suc, ◌-◌, ◌≤◌}
 use mathlib.Core.Path.{◌≡◌, refl, sym, ap, ◌∙◌}
@@ -12,7 +11,7 @@ use lib.Seq.{set-get_or, get_or-set_other}
 use borrow.Author.Tests.{eqb-true, eqb-false, not-false}
 use Rattle.tally.specs.Limits.{Limits, blank_code}
 use Rattle.tally.specs.Refusal.{number_of}
-use Rattle.tally.proofs.Refusals.{refusal_number}
+use Rattle.consensus.proofs.Given.{none_holds}
 use Rattle.consensus.proofs.Laws.{none_first}
 use Rattle.contents.specs.Images.{fits}
 use Rattle.contents.specs.declared.Message.{Message}
@@ -36,16 +35,6 @@ use Rattle.cards.proofs.Rows.{log_forth, row_forth}
 use Rattle.cards.proofs.Steps.{named}
 
 -- ---- conditions
-
-pub none_holds : (cs : List Condition) → number_of (first_refusal cs) ≡ 0 → NoneHolds cs
-unfolding first_refusal
-none_holds [] e = tt
-none_holds (r ∷ rs) e = go r.holds refl e (none_holds rs)
-  where
-    go : (b : Bool) → r.holds ≡ b → number_of (cond b (Some r.refusal) (first_refusal rs)) ≡ 0 → (number_of (first_refusal rs) ≡ 0 → NoneHolds rs)
-        → (r.holds ≡ false) × NoneHolds rs
-    go true q z f = absurd (eqb-false _ 0 (refusal_number r.refusal) z)
-    go false q z f = (q, f z)
 
 module _ (l : Limits) (cs : List Condition) (rows : List CardRow) (k : ℕ) (there : NoneHolds cs → 1 ≤ k) (x : CardRow)
     (out : List ℕ) where

@@ -147,17 +147,23 @@ cases =
     -- a proposal writes the row's image, and no log
     ∷ gives (proposes 6 (new 2)) (card (row (fields 2 0 none none) (fields 2 0 6 none)))
     (F ∷ B ∷ 3 ∷ 0 ∷ 255 ∷ 0 ∷ (two 2 ++ (two 0 ++ (mileage 6 ++ mileage 6))))
+    -- the greatest mileage
+    ∷ gives (proposes 99999999 (new 2)) (card (row (fields 2 0 none none) (fields 2 0 99999999 none)))
+    (F ∷ B ∷ 3 ∷ 0 ∷ 255 ∷ 0 ∷ (two 2 ++ (two 0 ++ (mileage 99999999 ++ mileage 99999999))))
+    -- and one above it: 2 in a row's log, 3 in its image
+    ∷ refused 2 [] (key_on b (card (row (fields 2 0 100000000 none) (fields 2 0 none none))) 2)
+    ∷ refused 3 zeros (proposes 6 (row (fields 2 0 none none) (fields 2 0 100000000 none)))
     -- 6; 3 before it: an image malformed, of other settings, or not fitting; 2 before that; 12; and 1, where a buffer keeps its bytes
-    ∷ refused 6 zeros (proposes 10000000 (new 2))
-    ∷ refused 3 zeros (proposes 10000000 (tallied 0 65536 0 blanks))
+    ∷ refused 6 zeros (proposes 100000000 (new 2))
+    ∷ refused 3 zeros (proposes 100000000 (tallied 0 65536 0 blanks))
     ∷ refused 3 zeros (proposes 6 (tallied 0 0 65536 blanks))
     ∷ refused 3 zeros (proposes 6 (row (fields 2 0 none none) of_five))
     ∷ refused 3 zeros (proposes 6 (row (fields 2 1 none none) (fields 2 0 none none)))
-    ∷ refused 2 zeros (proposes 10000000 (row no_row.log of_five))
-    ∷ refused 3 zeros (proposes 10000000 (new 1))
-    ∷ refused 2 zeros (propose (beside B 2 0) (card (row of_five of_five)) 2 10000000 (junk 18))
-    ∷ refused 12 zeros (propose (beside 90 3 0) (card (new 2)) 4 10000000 (junk 18))
-    ∷ refused 1 zeros (propose (beside 90 3 0) (replicate 65 no_row) 66 10000000 (junk 18))
+    ∷ refused 2 zeros (proposes 100000000 (row no_row.log of_five))
+    ∷ refused 3 zeros (proposes 100000000 (new 1))
+    ∷ refused 2 zeros (propose (beside B 2 0) (card (row of_five of_five)) 2 100000000 (junk 18))
+    ∷ refused 12 zeros (propose (beside 90 3 0) (card (new 2)) 4 100000000 (junk 18))
+    ∷ refused 1 zeros (propose (beside 90 3 0) (replicate 65 no_row) 66 100000000 (junk 18))
     ∷ refused 1 (junk 17) (propose (beside 90 3 0) (card (new 2)) 4 6 (junk 17))
     -- a FIRST is logged in the row of its entry, and answered with CHECK
     ∷ gives (delivers (first 2) (new 2)) (card (row (fields 2 0 none 5) (fields 2 0 none 5)))

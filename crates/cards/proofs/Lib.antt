@@ -4,4 +4,5 @@ pub mod Steps
 pub mod Stored
 pub mod Asked
 pub mod Encoded
+pub mod Wider
 pub mod Examples

@@ -1,4 +1,5 @@
 pub mod Rows
 pub mod Calls
 pub mod Claims
+pub mod Wider
 pub mod InnerSteps

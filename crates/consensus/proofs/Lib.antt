@@ -1,6 +1,7 @@
 pub mod Order
 pub mod Branches
 pub mod Laws
+pub mod Given
 pub mod Repeats
 pub mod Stays
 pub mod Answers
@@ -10,3 +11,4 @@ pub mod Found
 pub mod Addressee
 pub mod Soundness
 pub mod Refusals
+pub mod Wider

@@ -2,3 +2,4 @@ pub mod Tests
 pub mod Same
 pub mod KindRules
 pub mod Facts
+pub mod Wider

@@ -1,5 +1,6 @@
 pub mod Packed
 pub mod Steps
+pub mod Wider
 pub mod RoundTrips
 pub mod Letters
 pub mod LogFormat

@@ -13,7 +13,7 @@ ghost use Rattle.mileage.specs.Version.{version};
 use cards::{Act, CardRow};
 
 // As specs/Version.antt has it, and the header.
-const VERSION: u32 = 3;
+const VERSION: u32 = 4;
 
 // The version of this core: where it is not the header's, header and archive are not of one landing.
 #[unsafe(no_mangle)]

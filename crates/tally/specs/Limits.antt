@@ -1,6 +1,6 @@
 -- Every limit and code of the scope paper and of the change requests, once; `src/limits.rt` has them for the code. Letters are in crate formats,
 -- `Codes`, the numbers of refusals in `Refusal`; the script's letters and the bound of its numbers are in crate script. Assumes nothing.
-use Rattle.std.specs.Prelude.{ℕ, ◌+◌, ◌^◌, ◌<◌}
+use Rattle.std.specs.Prelude.{ℕ, ◌+◌, ◌^◌, ◌<◌, ◌≤◌}
 
 -- what later versions of the core may set otherwise
 pub record Limits : Type 0 where
@@ -8,9 +8,17 @@ pub record Limits : Type 0 where
   pub last_round : ℕ
   pub round_width : ℕ
 
--- mileage: 0 to 9,999,999, in hundred-metre steps; round: 0 to 9,999, in 2 bytes
+-- mileage: 0 to 99,999,999, in steps of ten metres or of a hundred (request 3); round: 0 to 9,999, in 2 bytes
 abbrev pub today : Limits
-today = record { max_mileage = 9999999; last_round = 9999; round_width = 2 }
+today = record { max_mileage = 99999999; last_round = 9999; round_width = 2 }
+
+-- as they were before request 3, when a mileage was 0 to 9,999,999
+abbrev pub hundred_metres : Limits
+hundred_metres = record { max_mileage = 9999999; last_round = 9999; round_width = 2 }
+
+-- limits with another greatest mileage
+abbrev pub with_max_mileage : ℕ → Limits → Limits
+with_max_mileage k l = record { max_mileage = k; last_round = l.last_round; round_width = l.round_width }
 
 -- units n: 3 to 16
 abbrev pub min_units : ℕ
@@ -71,6 +79,11 @@ places = 128
 
 abbrev pub script_size : ℕ
 script_size = 32768
+
+-- l's greatest mileage and last round are o's, or greater ones
+pub record Wider (o l : Limits) : Type 0 where
+  pub mileage : o.max_mileage ≤ l.max_mileage
+  pub round : o.last_round ≤ l.last_round
 
 -- limits that leave split and blank apart from every mileage, and each round its bytes
 pub record Sane (l : Limits) : Type 0 where

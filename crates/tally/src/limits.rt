@@ -20,8 +20,8 @@ pub const LAST_ROUND: Round = 9999;
 
 pub const ROUND_WIDTH: usize = 2;
 
-// Mileages, in hundred-metre steps, and the numbers that stand for blank and split.
-pub const MAX_MILEAGE: u32 = 9999999;
+// Mileages, in steps of ten metres or of a hundred, and the numbers that stand for blank and split.
+pub const MAX_MILEAGE: u32 = 99999999;
 
 pub const SPLIT: u32 = 4294967294;
 

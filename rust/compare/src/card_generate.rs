@@ -3,8 +3,8 @@
 use crate::call::{Call, Entry, CARD_ENTRIES, MESSAGE, ROWS};
 use crate::card_damage::damage;
 use crate::damage::{damage_length, LIMITS};
-use crate::format::{get, put, ENTRY, MAX_MILEAGE, MAX_ROWS, MESSAGE_ENTRY, MIN_ROWS, ROW_NUMBERS};
-use crate::generate::{any_number, made, Maker};
+use crate::format::{get, put, ENTRY, MAX_ROWS, MESSAGE_ENTRY, MIN_ROWS, ROW_NUMBERS};
+use crate::generate::{any_number, given_mileage, made, Maker};
 use crate::random::Random;
 use crate::rows;
 use crate::scene::{Contents, Pool};
@@ -71,7 +71,7 @@ pub fn call_of(entry: Entry, contents: &Contents, random: &mut Random) -> Call {
     let mut card = other_rows(&own, count, random);
     card[number as usize - 1] = own;
     let mut call = lend(entry, &card, number, random.byte());
-    call.numbers[4] = random.between(0, MAX_MILEAGE);
+    call.numbers[4] = given_mileage(random);
     call.bytes[MESSAGE].put(&contents.message);
     unread(&mut call, random);
     call

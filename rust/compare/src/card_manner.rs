@@ -5,7 +5,7 @@ use crate::card_tally::CardTally;
 use crate::card_world::{Setting, What};
 use crate::format::{MAX_MILEAGE, MAX_ROWS, MAX_UNITS, MIN_UNITS};
 use crate::manner::Manner;
-use crate::random::Random;
+use crate::random::{greatest_mileage, Random};
 use crate::trouble::Trouble;
 use crate::unit_card::Stage;
 use crate::world::name_of;
@@ -23,6 +23,7 @@ type Played = Result<(), Trouble>;
 
 impl CardManner {
     fn new(setting: &Setting, random: &mut Random) -> CardManner {
+        let greatest = greatest_mileage(random);
         let most = setting.counts.iter().max().copied().unwrap_or(1);
         let mut entries: Vec<u32> = (0..random.one_of(&[1, 2, 2, 3, 4]))
             .map(|_| random.between(1, most))
@@ -30,7 +31,7 @@ impl CardManner {
         entries.sort_unstable();
         entries.dedup();
         CardManner {
-            bus: Manner::new(setting.n, random),
+            bus: Manner::new(setting.n, greatest, random),
             entries,
             start: random.one_of(&[5, 30, 100]),
             whole: random.one_of(&[0, 20, 100]),

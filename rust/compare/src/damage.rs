@@ -5,12 +5,13 @@ use crate::format::{self, estimate, get, put, put_mark, Field};
 use crate::format::{BLANK, CHECK_MARKS, MAX_MILEAGE, SECOND_MARKS, SPLIT};
 use crate::random::Random;
 
-/// Numbers at each limit and one beyond, and some that are in range only if cut to one or two bytes.
+/// Numbers at each limit and one beyond, and some that are in range only if cut to one, two or three bytes.
 /// Letters by their numbers: A B C F K Q R S Z b s, then B, F and R to be cut.
-pub const LIMITS: [u32; 46] = [
+pub const LIMITS: [u32; 49] = [
     0, 1, 2, 3, 4, 15, 16, 17, 63, 64, 254, 255, 256, 258, 259, 271, 272, 9998, 9999, 10000, 65535,
-    65536, 65537, 65539, 75535, 9999999, 10000000, 16777216, 2147483648, 4294967293, 4294967294,
-    4294967295, 65, 66, 67, 70, 75, 81, 82, 83, 90, 98, 115, 322, 65606, 65618,
+    65536, 65537, 65539, 75535, 9999999, 10000000, 99999999, 100000000, 16777216, 268435456,
+    2147483648, 4294967293, 4294967294, 4294967295, 65, 66, 67, 70, 75, 81, 82, 83, 90, 98, 115,
+    322, 65606, 65618,
 ];
 
 /// Another number: near the one there, or at a limit.
@@ -18,7 +19,7 @@ pub fn other_number(number: u32, random: &mut Random) -> u32 {
     match random.below(8) {
         0 => number.wrapping_add(1),
         1 => number.wrapping_sub(1),
-        2 => number.wrapping_add(random.one_of(&[256, 65536, 16_777_216])),
+        2 => number.wrapping_add(random.one_of(&[256, 65536, 16_777_216, 268_435_456])),
         3 => number ^ 1 << random.below(32),
         4 => random.between(0, MAX_MILEAGE),
         _ => random.one_of(&LIMITS),

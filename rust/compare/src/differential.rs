@@ -1,7 +1,7 @@
 //! Every entry of one unit on random, damaged and reachable contents: both sides must do the same, to the last byte.
 
 use crate::call::{Answer, Call, Entry, ENTRIES, IMAGE, LOG, MESSAGE};
-use crate::format::{image_of, log_of, ACCEPTED, BLANK, MAX_MILEAGE};
+use crate::format::{image_of, log_of, ACCEPTED, BLANK, MAX_MILEAGE, OLD_MAX_MILEAGE};
 use crate::generate;
 use crate::histories;
 use crate::random::Random;
@@ -15,11 +15,12 @@ use crate::trouble::{agreed, judged, Trouble};
 /// Calls made with one pool of contents from a history.
 const CALLS_PER_POOL: u64 = 10_000;
 
-/// How much is compared: random calls, deliveries swept with every byte and every set of lengths, and whether every mileage is proposed.
+/// How much is compared: random calls; deliveries swept with every byte and every set of lengths; and mileages proposed one after the
+/// other, one in so many of those that were good before request 3, and one in so many above.
 pub struct Amount {
     pub calls: u64,
     pub swept: usize,
-    pub mileages: bool,
+    pub mileages: Option<[u32; 2]>,
 }
 
 /// What was read, written again, gives the same bytes; what was written, read again, gives the same fields.
@@ -98,15 +99,31 @@ fn sweep_all(
     ))
 }
 
-/// Every mileage and some beyond, proposed by a fresh unit, without new memory for each. Says how many.
-fn every_mileage(pair: &Pair, random: &mut Random) -> Result<u32, String> {
+/// One in so many up to the old bound, one in so many above it, all that are near a bound, some of them beyond, and the last numbers.
+fn swept_mileages(steps: [u32; 2]) -> impl Iterator<Item = u32> {
+    const NEAR: u32 = 10_000;
+    let near = [OLD_MAX_MILEAGE, MAX_MILEAGE].map(|bound| bound - NEAR..=bound + NEAR);
+    let [old, new] = steps.map(|step| step as usize);
+    (0..=OLD_MAX_MILEAGE)
+        .step_by(old)
+        .chain((OLD_MAX_MILEAGE + 1..=MAX_MILEAGE).step_by(new))
+        .chain(near.into_iter().flatten())
+        .chain(u32::MAX - 1_000..=u32::MAX)
+}
+
+/// These proposed by a fresh unit one after the other, without new memory for each. Says how many.
+fn propose_each(
+    pair: &Pair,
+    mileages: impl Iterator<Item = u32>,
+    random: &mut Random,
+) -> Result<u32, String> {
     let record = [b'B'.into(), 3, 0, 1, 0, BLANK, BLANK, BLANK];
     let mut call = Call::new(Entry::Propose, random.byte());
     call.bytes[LOG].put(&log_of(record));
     call.bytes[IMAGE].put(&image_of(record));
     let mut answers = [call.on(&pair.0), call.on(&pair.1)];
-    let (mut count, mut accepted) = (0, 0);
-    for mileage in (0..MAX_MILEAGE + 100_000).chain(u32::MAX - 1_000..=u32::MAX) {
+    let (mut count, mut good, mut accepted) = (0, 0, 0);
+    for mileage in mileages {
         call.numbers[0] = mileage;
         call.on_again(&pair.0, &mut answers[0]);
         call.on_again(&pair.1, &mut answers[1]);
@@ -115,12 +132,22 @@ fn every_mileage(pair: &Pair, random: &mut Random) -> Result<u32, String> {
                 .map_err(|trouble| report(&|call| check(pair, call), &call, &trouble))?;
         }
         count += 1;
+        good += u32::from(mileage <= MAX_MILEAGE);
         accepted += u32::from(answers[0].number == ACCEPTED);
     }
-    if accepted != MAX_MILEAGE + 1 {
-        return Err(format!("FAILED: {accepted} mileages are accepted"));
+    if accepted != good {
+        return Err(format!(
+            "FAILED: of {good} good mileages {accepted} are accepted"
+        ));
     }
     Ok(count)
+}
+
+fn one_in(step: u32) -> String {
+    match step {
+        1 => "each".to_string(),
+        _ => format!("one in {step}"),
+    }
 }
 
 pub fn run(pair: &Pair, amount: &Amount, random: &mut Random) -> Result<String, String> {
@@ -140,14 +167,17 @@ pub fn run(pair: &Pair, amount: &Amount, random: &mut Random) -> Result<String, 
         one(&generate::call(&pool, random))?;
     }
     let swept = sweep_all(pair, amount.swept, random, &mut one)?;
-    let mileages = if amount.mileages {
-        every_mileage(pair, random)?
-    } else {
-        0
+    let mileages = match amount.mileages {
+        None => "none".to_string(),
+        Some(steps) => {
+            let count = propose_each(pair, swept_mileages(steps), random)?;
+            let [old, new] = steps.map(one_in);
+            format!("{count}, {old} up to {OLD_MAX_MILEAGE}, {new} above and all near both bounds")
+        }
     };
     let text = reached.summary(&ENTRIES)?;
     Ok(format!(
-        "{} calls, of them {} random; {swept}; besides, {mileages} mileages proposed one after the other{text}",
+        "{} calls, of them {} random; {swept}; besides, mileages proposed one after the other: {mileages}{text}",
         reached.calls, amount.calls
     ))
 }

@@ -20,7 +20,7 @@ constants! {
     MIN_ENTRY: u32 = 1;
     MAX_ENTRY: u32 = 9_999;
     MAX_ROUND: u32 = 9_999;
-    MAX_MILEAGE: u32 = 9_999_999;
+    MAX_MILEAGE: u32 = 99_999_999;
     MIN_ROWS: u32 = 1;
     MAX_ROWS: u32 = 64;
     BLANK: u32 = 4_294_967_295;
@@ -36,6 +36,9 @@ constants! {
     LAST_ROUND: u32 = 7;
     NO_ROW: u32 = 12;
 }
+
+/// The greatest mileage before request 3, in hundred-metre steps.
+pub const OLD_MAX_MILEAGE: u32 = 9_999_999;
 
 /// Where a number stands: its first byte and how many there are, the highest first.
 #[derive(Clone, Copy)]
@@ -91,7 +94,7 @@ pub const CHECK_MARKS: Field = field(20, 2);
 pub const SECOND_MARKS: Field = field(86, 2);
 
 /// The estimate of a sender under these marks.
-pub fn estimate(marks: Field, unit: u32) -> Field {
+pub const fn estimate(marks: Field, unit: u32) -> Field {
     field(marks.at + 2 + 4 * unit as usize, 4)
 }
 

@@ -2,8 +2,8 @@
 
 use crate::call::{Call, Entry, ENTRIES, IMAGE, LOG, MESSAGE};
 use crate::damage::{damage, damage_length};
-use crate::format::{self, MAX_MILEAGE};
-use crate::random::Random;
+use crate::format::{self, BLANK, MAX_MILEAGE, SPLIT};
+use crate::random::{greatest_mileage, Random};
 use crate::scene::{Contents, Pool, Scene};
 
 /// A call with these contents; what it only writes is often left as a random byte.
@@ -29,9 +29,19 @@ pub fn call_of(entry: Entry, contents: &Contents, random: &mut Random) -> Call {
         let settings = format::fields(&contents.log, format::LOG);
         call.numbers[..4].copy_from_slice(&settings[..4]);
     } else {
-        call.numbers[0] = random.between(0, MAX_MILEAGE);
+        call.numbers[0] = given_mileage(random);
     }
     call
+}
+
+/// A mileage to propose, seldom one that is out of range.
+pub fn given_mileage(random: &mut Random) -> u32 {
+    let greatest = greatest_mileage(random);
+    let (good, wrong) = (
+        random.between(0, greatest),
+        random.one_of(&[MAX_MILEAGE + 1, SPLIT, BLANK]),
+    );
+    random.either((1, 20), wrong, good)
 }
 
 fn some_entry(random: &mut Random) -> Entry {

@@ -1,10 +1,11 @@
 //! Random histories: many of them compared, and one taken for its contents or its deliveries.
 
 use crate::call::Call;
+use crate::format::OLD_MAX_MILEAGE;
 use crate::history::{Run, Tally};
 use crate::history_shrink::report;
 use crate::manner::{play, random_setting};
-use crate::random::Random;
+use crate::random::{greatest_mileage, Random};
 use crate::scene::Pool;
 use crate::side::{Pair, Side};
 use crate::trouble::Trouble;
@@ -23,7 +24,8 @@ pub fn pool(side: &Side, random: &mut Random) -> Pool {
         let Ok(mut run) = Run::new(&pair, &setting, &mut tally) else {
             continue;
         };
-        let _ = play(&mut run, 60 * setting.n, random, &mut tally);
+        let greatest = greatest_mileage(random);
+        let _ = play(&mut run, 60 * setting.n, greatest, random, &mut tally);
         pool.units
             .extend(run.world.units.iter().map(|unit| (unit.log, unit.image)));
         pool.messages
@@ -32,7 +34,7 @@ pub fn pool(side: &Side, random: &mut Random) -> Pool {
     pool
 }
 
-/// The deliveries of a history as calls, for the benchmark.
+/// The deliveries of a history as calls, for the benchmark. Its mileages were good before request 3 too.
 pub fn deliveries(
     side: &Side,
     setting: &Setting,
@@ -41,7 +43,7 @@ pub fn deliveries(
     let pair = Pair(*side, *side);
     let tally = &mut Tally::default();
     let mut first = Run::new(&pair, setting, tally)?;
-    play(&mut first, 200 * setting.n, random, tally)?;
+    play(&mut first, 200 * setting.n, OLD_MAX_MILEAGE, random, tally)?;
     let mut again = Run::new(&pair, setting, tally)?;
     let mut calls = Vec::new();
     for &event in &first.events {
@@ -63,7 +65,8 @@ pub fn one(
     let mut run = Run::new(pair, setting, tally)
         .map_err(|trouble| format!("FAILED at the start: {trouble}"))?;
     let events = setting.n * (15 + random.below(30 + 5 * setting.n));
-    play(&mut run, events, random, tally).map_err(|trouble| report(pair, &run, &trouble))
+    let greatest = greatest_mileage(random);
+    play(&mut run, events, greatest, random, tally).map_err(|trouble| report(pair, &run, &trouble))
 }
 
 pub fn run(pair: &Pair, histories: u64, random: &mut Random) -> Result<String, String> {

@@ -1,14 +1,15 @@
 //! The ways to make a script that means something.
 
+use crate::format::OLD_MAX_MILEAGE;
 use crate::listed::{one_of, BAD_LINES};
 use crate::play::{Play, Seen, PLACES};
-use crate::random::Random;
+use crate::random::{greatest_mileage, Random};
 
 /// A way to make a script: its text, and what it does as far as it is played along.
 pub type Make = fn(&mut Random) -> (Vec<u8>, Seen);
 
 fn played(n: u32, random: &mut Random, how: impl Fn(&mut Play)) -> (Vec<u8>, Seen) {
-    let mut play = Play::begin(n, random);
+    let mut play = Play::begin(n, greatest_mileage(random), random);
     how(&mut play);
     (play.text, play.seen)
 }
@@ -72,21 +73,20 @@ pub fn full(random: &mut Random) -> (Vec<u8>, Seen) {
     })
 }
 
-/// As long as a script may be, for the benchmark.
+/// As long as a script may be, for the benchmark. Its proposals are accepted or refused as they were before request 3.
 pub fn longest(random: &mut Random) -> Vec<u8> {
-    let (text, _) = played(5, random, |play| {
-        (
-            play.in_order,
-            play.keys,
-            play.cuts,
-            play.slips,
-            play.proposals,
-        ) = (900, 20, 20, 20, 10);
-        while play.text.len() < 32_700 {
-            play.one_move();
-        }
-    });
-    text
+    let mut play = Play::begin(5, OLD_MAX_MILEAGE, random);
+    (
+        play.in_order,
+        play.keys,
+        play.cuts,
+        play.slips,
+        play.proposals,
+    ) = (900, 20, 20, 20, 10);
+    while play.text.len() < 32_700 {
+        play.one_move();
+    }
+    play.text
 }
 
 /// Malformed lines between good ones.

@@ -26,7 +26,8 @@ pub struct Manner {
 }
 
 impl Manner {
-    pub fn new(n: u32, random: &mut Random) -> Manner {
+    /// With mileages up to the greatest.
+    pub fn new(n: u32, greatest: u32, random: &mut Random) -> Manner {
         Manner {
             lost: random.one_of(&[0, 0, 5, 20]),
             apart: random.one_of(&[0, 0, 60, 90]),
@@ -37,7 +38,7 @@ impl Manner {
             propose: random.one_of(&[1, 4, 10]),
             stray: random.one_of(&[0, 0, 2, 10]),
             patience: random.one_of(&[2, 5, 20]),
-            mileages: std::array::from_fn(|_| random.between(0, MAX_MILEAGE)),
+            mileages: std::array::from_fn(|_| random.between(0, greatest)),
             next: vec![0; n as usize],
         }
     }
@@ -160,10 +161,11 @@ impl Manner {
 pub fn play(
     run: &mut Run,
     events: u32,
+    greatest: u32,
     random: &mut Random,
     tally: &mut Tally,
 ) -> Result<(), Trouble> {
-    let mut manner = Manner::new(run.setting.n, random);
+    let mut manner = Manner::new(run.setting.n, greatest, random);
     for unit in random.below(4)..3 {
         run.step(unit, What::Propose(manner.mileages[unit as usize]), tally)?;
     }

@@ -37,6 +37,7 @@ pub struct Play<'a> {
     pub heard: Vec<[bool; PLACES]>,
     lines: usize,
     pub most_lines: usize,
+    greatest: u32,
     mileages: [u32; 3],
     pub in_order: u32,
     pub keys: u32,
@@ -50,10 +51,10 @@ pub struct Play<'a> {
     pub seen: Seen,
 }
 
-fn new_mileage(random: &mut Random) -> u32 {
+fn new_mileage(greatest: u32, random: &mut Random) -> u32 {
     match random.below(3) {
-        0 => random.below(MAX_MILEAGE + 1),
-        _ => random.one_of(&[0, 1, 5, 412_077, MAX_MILEAGE]),
+        0 => random.below(greatest + 1),
+        _ => random.one_of(&[0, 1, 5, 412_077, greatest]),
     }
 }
 
@@ -69,8 +70,8 @@ fn begun(setting: &Setting) -> World {
 }
 
 impl<'a> Play<'a> {
-    /// A header, and one to three proposals. From calm and in order, which decides, to wild.
-    pub fn begin(n: u32, random: &'a mut Random) -> Play<'a> {
+    /// A header, and one to three proposals, of mileages up to the greatest. From calm and in order, which decides, to wild.
+    pub fn begin(n: u32, greatest: u32, random: &'a mut Random) -> Play<'a> {
         let header = random.one_of(&["B", "R", "R", ""]);
         let any_entry = random.between(MIN_ENTRY, MAX_ENTRY);
         let setting = Setting {
@@ -79,13 +80,13 @@ impl<'a> Play<'a> {
             entry: any_entry,
             rounds: Vec::new(),
         };
-        let first = new_mileage(random);
+        let first = new_mileage(greatest, random);
         let mut mileages = [first; 3];
         for mileage in &mut mileages[1..] {
             *mileage = if random.chance(1, 2) {
                 first
             } else {
-                new_mileage(random)
+                new_mileage(greatest, random)
             };
         }
         let mut play = Play {
@@ -94,6 +95,7 @@ impl<'a> Play<'a> {
             heard: vec![[false; PLACES]; n as usize],
             lines: 0,
             most_lines: usize::MAX,
+            greatest,
             mileages,
             in_order: random.one_of(&[1000, 1000, 900, 600, 200, 0]),
             keys: random.one_of(&[0, 0, 10, 30]),
@@ -190,7 +192,13 @@ impl<'a> Play<'a> {
     }
 
     pub fn propose_new(&mut self, unit: u32) {
-        let mileage = new_mileage(self.random);
+        let mileage = new_mileage(self.greatest, self.random);
+        self.line(b'P', unit, mileage);
+    }
+
+    /// A unit that is down is given any mileage: it does not look at it.
+    pub fn propose_unheard(&mut self, unit: u32) {
+        let mileage = new_mileage(MAX_MILEAGE, self.random);
         self.line(b'P', unit, mileage);
     }
 

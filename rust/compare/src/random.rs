@@ -1,5 +1,7 @@
 //! Random numbers: a small generator with a seed, so that every run can be made again.
 
+use crate::format::{MAX_MILEAGE, OLD_MAX_MILEAGE};
+
 #[derive(Clone)]
 pub struct Random(u64);
 
@@ -56,4 +58,9 @@ impl Random {
     pub fn chance(&mut self, times: u32, of: u32) -> bool {
         self.below(of) < times
     }
+}
+
+/// The greatest mileage of a call, a history or a script: half of them keep to the bound that was before request 3.
+pub fn greatest_mileage(random: &mut Random) -> u32 {
+    random.one_of(&[OLD_MAX_MILEAGE, MAX_MILEAGE])
 }

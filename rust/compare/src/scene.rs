@@ -4,10 +4,9 @@ use crate::format::{
     self, image_of, is_marked, log_of, marks_of, message_of, put_mark, quorum, Field,
 };
 use crate::format::{
-    BLANK, CHECK_MARKS, EVERYONE, MAX_ENTRY, MAX_MILEAGE, MAX_ROUND, MAX_UNITS, MIN_UNITS,
-    SECOND_MARKS, SPLIT,
+    BLANK, CHECK_MARKS, EVERYONE, MAX_ENTRY, MAX_ROUND, MAX_UNITS, MIN_UNITS, SECOND_MARKS, SPLIT,
 };
-use crate::random::Random;
+use crate::random::{greatest_mileage, Random};
 
 /// What is lent to a call that has these buffers.
 #[derive(Clone)]
@@ -51,9 +50,10 @@ impl Scene {
     pub fn new(random: &mut Random) -> Scene {
         let (any, few) = (random.between(MIN_UNITS, MAX_UNITS), 3 + random.below(3));
         let n = random.either((1, 2), any, few);
-        let mut mileages = [random.between(0, MAX_MILEAGE); 3];
+        let greatest = greatest_mileage(random);
+        let mut mileages = [random.between(0, greatest); 3];
         for mileage in &mut mileages[1..] {
-            let other = random.between(0, MAX_MILEAGE);
+            let other = random.between(0, greatest);
             *mileage = random.either((1, 2), *mileage, other);
         }
         let often = random.one_of(&[0, 1, 255, 256, MAX_ROUND - 1, MAX_ROUND, MAX_ROUND]);

@@ -191,7 +191,7 @@ fn switching(size: usize) -> Vec<u8> {
 
 /// All places filled, then what is refused for it and what is not.
 fn crowded() -> Vec<u8> {
-    let tail = "P,0,10000000\nP,0,5\nD,0,0\nD,0,0\nW,0,0\nU,0\nD,0,0\nW,0,0\nU,0\nP,0,5\nK,0\nD,1,127\nW,1,0\nU,1\nD,1,128\n";
+    let tail = "P,0,100000000\nP,0,99999999\nP,0,5\nD,0,0\nD,0,0\nW,0,0\nU,0\nD,0,0\nW,0,0\nU,0\nP,0,5\nK,0\nD,1,127\nW,1,0\nU,1\nD,1,128\n";
     ["B,3,7\n", &"P,0,5\n".repeat(PLACES), tail]
         .concat()
         .into_bytes()

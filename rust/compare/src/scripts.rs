@@ -224,10 +224,14 @@ impl Players<'_> {
         )
     }
 
+    /// The listing that both give; or a report of a smaller script on which they do not agree.
+    pub fn listing(&self, script: &[u8], feed: Feed) -> Result<Vec<u8>, String> {
+        self.agreed(script, feed)
+            .map_err(|failure| self.report(script, feed, failure))
+    }
+
     fn check(&self, script: &[u8], feed: Feed, tally: &mut Tally) -> Result<(), String> {
-        let listing = self
-            .agreed(script, feed)
-            .map_err(|failure| self.report(script, feed, failure))?;
+        let listing = self.listing(script, feed)?;
         tally.count(&listing, feed);
         Ok(())
     }
@@ -265,7 +269,7 @@ pub fn stored(folders: &[impl AsRef<Path>]) -> Result<Vec<Vec<u8>>, String> {
 }
 
 /// How many of each kind are made, in a hundred.
-const KINDS: [(Make, u64); 8] = [
+pub const KINDS: [(Make, u64); 8] = [
     (made::any, 25),
     (made::rivals, 12),
     (made::probed, 15),

@@ -1,6 +1,6 @@
 //! Moves of a play that a careless hand makes.
 
-use crate::format::{get, RECEIVER};
+use crate::format::{get, MAX_MILEAGE, RECEIVER};
 use crate::listed::{one_of, BAD_LINES};
 use crate::play::Play;
 
@@ -57,12 +57,12 @@ impl Play<'_> {
             }
             _ => {
                 let number = self.random.one_of(&[
-                    10_000_000,
-                    10_000_001,
+                    MAX_MILEAGE + 1,
+                    MAX_MILEAGE + 2,
                     4_294_967_293,
                     4_294_967_294,
                     u32::MAX,
-                    16_777_216,
+                    268_435_456,
                     2_147_483_648,
                 ]);
                 let letter = self.random.one_of(b"PDW");
@@ -76,7 +76,7 @@ impl Play<'_> {
         let kept = self.kept();
         match self.random.below(12) {
             0 => self.line(b'K', unit, 0),
-            1 => self.propose_new(unit),
+            1 => self.propose_unheard(unit),
             2 => {
                 let message = self.random.below(kept + 2);
                 self.line(b'D', unit, message);

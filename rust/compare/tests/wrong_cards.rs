@@ -159,7 +159,7 @@ fn histories_find_what_calls_find() {
         assert_events(&report, most);
     }
     let report = histories_report(against_right(|side| side.card_key_on = KEY_ON_KEEPS_MARKS));
-    assert_events(&report, 4);
+    assert_events(&report, 5);
 }
 
 /// The mileage was proposed, but for another entry of the same card.

@@ -120,7 +120,11 @@ fn another_constant_is_found() {
     let version = |number: u32| format!("MILEAGE_VERSION UINT32_C({number})");
     assert_found(&version(core::version()), &version(core::version() + 1));
     assert_found(&format!("#define {}", version(core::version())), "");
-    assert_found("#define MILEAGE_MAX_MILEAGE UINT32_C(9999999)", "");
+    assert_found("#define MILEAGE_MAX_MILEAGE UINT32_C(99999999)", "");
+    assert_found(
+        "MILEAGE_MAX_MILEAGE UINT32_C(99999999)",
+        "MILEAGE_MAX_MILEAGE UINT32_C(9999999)",
+    );
     assert_found("UINT32_C(4294967294)", "UINT32_C(4294967293)");
     assert_found("#define MILEAGE_LAST_ROUND UINT32_C(7)", "");
     assert_found("#define MILEAGE_NO_ROW UINT32_C(12)", "");

@@ -142,7 +142,7 @@ fn a_bench_of_silent_units_is_found() {
         deliver,
         ..INDEPENDENT
     });
-    assert_bytes(&report(&silent_units), 25);
+    assert_bytes(&report(&silent_units), 27);
 }
 
 /// It is not played again on smaller scripts.

@@ -214,7 +214,7 @@ fn a_silent_card_is_found() {
     assert_has(&report(against_itself(change)), &["shrunk", differ]);
     let found = histories(against_right(change));
     assert_has(&found, &[differ]);
-    assert_events(&found, 4);
+    assert_events(&found, 5);
     let never = histories(against_itself(change));
     assert_has(&never, &["never reached: CHECKs sent again"]);
 }

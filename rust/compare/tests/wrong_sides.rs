@@ -300,7 +300,7 @@ fn one_mileage_refused_is_found() {
     }
     let amount = Amount {
         calls: 0,
-        mileages: true,
+        mileages: Some([127, 1_000]),
         ..FEW
     };
     let change = |side: &mut Side| side.propose = refuses_one;
@@ -311,7 +311,7 @@ fn one_mileage_refused_is_found() {
     );
     assert_has(
         &run(against_itself(change)),
-        &["9999999 mileages are accepted"],
+        &["of 198743 good mileages 198742 are accepted"],
     );
 }
 

@@ -16,7 +16,13 @@ pub const MAX_UNITS: usize = 16;
 pub const MIN_ENTRY: u32 = 1;
 pub const MAX_ENTRY: u32 = 9_999;
 pub const MAX_ROUND: u32 = 9_999;
-pub const MAX_MILEAGE: u32 = 9_999_999;
+
+/// In ten-metre steps, since request 3. The package `hundred_metres`, made of the same files, keeps the bound that was before.
+pub const MAX_MILEAGE: u32 = if cfg!(feature = "hundred_metres") {
+    9_999_999
+} else {
+    99_999_999
+};
 
 /// The source's bottom: nothing there.
 pub const BLANK: u32 = 4_294_967_295;

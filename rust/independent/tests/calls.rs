@@ -126,7 +126,7 @@ fn refusal_1_lengths() {
     );
     assert_eq!(out, EMPTY);
     assert_eq!(
-        calls::propose(&log, &mut image, 10_000_000, &mut out[..17]),
+        calls::propose(&log, &mut image, 100_000_000, &mut out[..17]),
         1
     );
     assert_eq!(calls::propose(&unit.log, &mut image[..151], 5, &mut out), 1);
@@ -157,7 +157,7 @@ fn refusal_2_log() {
     let mut log = [0; LOG_LENGTH];
     assert_eq!(calls::write_log(&good, &mut log), 0);
     let written = log;
-    let wrong: [(usize, u32); 15] = [
+    let wrong: [(usize, u32); 17] = [
         (0, b'Z' as u32),
         (0, R), // the second estimate is not blank
         (0, B + 256),
@@ -169,9 +169,11 @@ fn refusal_2_log() {
         (3, 10_000),
         (4, 10_000),
         (4, 65_536),
-        (5, 10_000_000),
+        (5, 100_000_000),
         (5, SPLIT),
+        (6, 100_000_000),
         (6, SPLIT),
+        (7, 100_000_000),
         (7, SPLIT - 1),
     ];
     for (field, value) in wrong {
@@ -198,7 +200,7 @@ fn refusal_2_log() {
     };
     assert_eq!(calls::key_on(&unit.log, &mut unit.image), 2);
     assert_refused(&unit, &EMPTY, 2);
-    assert_eq!(unit.propose(10_000_000), (2, EMPTY));
+    assert_eq!(unit.propose(100_000_000), (2, EMPTY));
 }
 
 #[test]
@@ -209,7 +211,7 @@ fn refusal_3_image() {
         let log = unit.log;
         let mut unit = Unit { log, image };
         assert_refused(&unit, &EMPTY, 3);
-        assert_eq!(unit.propose(10_000_000), (3, EMPTY));
+        assert_eq!(unit.propose(100_000_000), (3, EMPTY));
     };
 
     // Log at round 4, image at 3; image at 5 with an estimate.
@@ -294,7 +296,7 @@ fn refusal_4_message() {
         [S, R, 3, 0, all, 7, 0, SPLIT, 5],
         [S, B, 3, 0, all, 7, 0, BLANK, 5],
         [S, B, 3, 0, all, 7, 0, 5, SPLIT],
-        [S, B, 3, 0, all, 7, 0, 10_000_000, 5],
+        [S, B, 3, 0, all, 7, 0, 100_000_000, 5],
         [K, B, 3, 0, all, 7, 0, BLANK, 5],
         [K, B, 3, 0, 3, 7, 0, BLANK, 5],
         [K, B, 3, 0, 1, 7, 0, 5, 5],
@@ -328,21 +330,124 @@ fn refusal_5_not_for_this_unit() {
 fn refusal_6_mileage() {
     let mut unit = Unit::start(B, 3, 0);
     let fresh = unit;
-    for mileage in [10_000_000, SPLIT, BLANK] {
+    for mileage in [100_000_000, SPLIT, BLANK] {
         assert_eq!(unit.propose(mileage), (6, EMPTY));
         assert_eq!(unit, fresh);
     }
     assert_eq!(
-        unit.propose(9_999_999),
-        (0, broadcast(F, B, 3, 0, 0, 9_999_999, 9_999_999))
+        unit.propose(99_999_999),
+        (0, broadcast(F, B, 3, 0, 0, 99_999_999, 99_999_999))
     );
     // Also where the unit has a proposal, which stays.
-    assert_eq!(unit.propose(10_000_000), (6, EMPTY));
+    assert_eq!(unit.propose(100_000_000), (6, EMPTY));
     assert_eq!(
         unit.propose(4),
-        (0, broadcast(F, B, 3, 0, 0, 9_999_999, 9_999_999))
+        (0, broadcast(F, B, 3, 0, 0, 99_999_999, 99_999_999))
     );
     assert_eq!(unit.log, fresh.log);
+}
+
+/// Mileages beside the bound that was before request 3 and at today's; and numbers beyond it.
+const MILEAGES: [u32; 4] = [9_999_999, 10_000_000, 10_000_001, 99_999_999];
+const BEYOND: [u32; 3] = [100_000_000, 100_000_001, 999_999_999];
+
+fn with_number<const N: usize>(mut bytes: [u8; N], at: usize, number: u32) -> [u8; N] {
+    bytes[at..at + 4].copy_from_slice(&number.to_be_bytes());
+    bytes
+}
+
+#[test]
+fn the_bound_of_a_proposal() {
+    let propose = |mileage| Unit::start(B, 3, 0).propose(mileage);
+    for mileage in MILEAGES {
+        let first = broadcast(F, B, 3, 0, 0, mileage, mileage);
+        assert_eq!(propose(mileage), (0, first));
+    }
+    for number in BEYOND {
+        assert_eq!(propose(number), (6, EMPTY));
+    }
+}
+
+/// Of its proposal, its first and its second estimate. Beyond the bound each call that reads or writes the log gives 2.
+#[test]
+fn the_bound_in_a_log() {
+    let good = [B, 3, 1, ENTRY, 4, 5, 6, 7];
+    for (field, at) in [(5, 8), (6, 12), (7, 16)] {
+        let with = |number| {
+            let mut fields = good;
+            fields[field] = number;
+            fields
+        };
+        for mileage in MILEAGES {
+            let mut unit = Unit::of_log(with(mileage));
+            assert_eq!(log_fields(&unit.log), with(mileage));
+            assert_eq!(unit.current(), with(mileage));
+            assert_refused(&unit, &EMPTY, 4);
+            assert_eq!(unit.propose(1).0, 0);
+        }
+        for number in BEYOND {
+            let mut unit = Unit::of_log(good);
+            unit.log = with_number(unit.log, at, number);
+            assert_eq!(calls::write_log(&with(number), &mut [0; LOG_LENGTH]), 2);
+            assert_eq!(calls::read_log(&unit.log, &mut [0; LOG_FIELDS]), 2);
+            assert_eq!(calls::key_on(&unit.log, &mut [0; IMAGE_LENGTH]), 2);
+            assert_refused(&unit, &EMPTY, 2);
+            assert_eq!(unit.propose(1), (2, EMPTY));
+        }
+    }
+}
+
+/// Of what an image holds beside its log: another proposal, and an estimate under each kind of marks.
+#[test]
+fn the_bound_in_an_image() {
+    let unit = Unit::of_log([B, 3, 1, ENTRY, 4, 5, 6, BLANK]);
+    for (marks, at) in [(None, 8), (Some(21), 22), (Some(87), 88)] {
+        let with = |number| {
+            let mut other = unit;
+            other.image = with_number(unit.image, at, number);
+            if let Some(marks) = marks {
+                other.image[marks] = 1;
+            }
+            other
+        };
+        for mileage in MILEAGES {
+            assert_refused(&with(mileage), &EMPTY, 4);
+            assert_eq!(with(mileage).propose(1).0, 0);
+        }
+        for number in BEYOND {
+            assert_refused(&with(number), &EMPTY, 3);
+            assert_eq!(with(number).propose(1), (3, EMPTY));
+        }
+    }
+}
+
+/// Of estimate and proposal of each kind. Beyond the bound each call that reads or writes the message gives 4.
+#[test]
+fn the_bound_in_a_message() {
+    let kinds = |number| {
+        [
+            [F, B, 3, 0, EVERYONE, ENTRY, 4, number, number],
+            [C, B, 3, 0, EVERYONE, ENTRY, 4, number, number],
+            [S, B, 3, 0, EVERYONE, ENTRY, 4, number, 5],
+            [S, B, 3, 0, EVERYONE, ENTRY, 4, SPLIT, number],
+            [K, B, 3, 0, 1, ENTRY, 9, BLANK, number],
+        ]
+    };
+    let unit = Unit::of_log([B, 3, 1, ENTRY, 4, 5, BLANK, BLANK]);
+    for fields in MILEAGES.into_iter().flat_map(kinds) {
+        let mut read = [0; MESSAGE_FIELDS];
+        assert_eq!(calls::read_message(&message(fields), &mut read), 0);
+        assert_eq!(read, fields);
+        assert_eq!({ unit }.deliver(&message(fields)).0, 0);
+    }
+    for number in BEYOND {
+        for (fields, good) in kinds(number).into_iter().zip(kinds(5)) {
+            let bytes = with_number(with_number(message(good), 10, fields[7]), 14, fields[8]);
+            assert_eq!(calls::write_message(&fields, &mut [0; MESSAGE_LENGTH]), 4);
+            assert_eq!(calls::read_message(&bytes, &mut [0; MESSAGE_FIELDS]), 4);
+            assert_refused(&unit, &bytes, 4);
+        }
+    }
 }
 
 #[test]
@@ -590,11 +695,11 @@ fn a_message_from_above_takes_the_unit_along() {
 #[test]
 fn read_then_write_gives_the_same_bytes() {
     let log = [
-        66, 16, 15, 0, 0x27, 0x0F, 0x27, 0x0E, 0, 0x98, 0x96, 0x7F, 0, 0, 1, 2, 255, 255, 255, 254,
+        66, 16, 15, 0, 0x27, 0x0F, 0x27, 0x0E, 5, 0xF5, 0xE0, 0xFF, 0, 0, 1, 2, 255, 255, 255, 254,
     ];
     let mut fields = [0; LOG_FIELDS];
     assert_eq!(calls::read_log(&log, &mut fields), 0);
-    assert_eq!(fields, [B, 16, 15, 9_999, 9_998, 9_999_999, 258, SPLIT]);
+    assert_eq!(fields, [B, 16, 15, 9_999, 9_998, 99_999_999, 258, SPLIT]);
     let mut again = [0xAA; LOG_LENGTH];
     assert_eq!(calls::write_log(&fields, &mut again), 0);
     assert_eq!(again, log);
@@ -610,7 +715,7 @@ fn read_then_write_gives_the_same_bytes() {
 
 #[test]
 fn write_then_read_gives_the_same_fields() {
-    for estimate in [0, 9_999_999, SPLIT, BLANK] {
+    for estimate in [0, 99_999_999, SPLIT, BLANK] {
         let fields = [B, 9, 8, 1, 0, BLANK, 0, estimate];
         let mut log = [0xAA; LOG_LENGTH];
         assert_eq!(calls::write_log(&fields, &mut log), 0);
@@ -618,7 +723,7 @@ fn write_then_read_gives_the_same_fields() {
     }
     for fields in [
         [F, R, 3, 0, EVERYONE, 1, 0, 0, 0],
-        [C, B, 16, 15, EVERYONE, 9_999, 9_999, 9_999_999, 9_999_999],
+        [C, B, 16, 15, EVERYONE, 9_999, 9_999, 99_999_999, 99_999_999],
         [S, B, 5, 4, EVERYONE, 300, 256, SPLIT, BLANK],
         [S, R, 5, 4, EVERYONE, 300, 256, 1, 2],
         [K, B, 5, 4, 4, 300, 256, BLANK, BLANK],
@@ -683,7 +788,7 @@ fn random_histories_agree_and_stay_well_formed() {
                 }
             }
             // The image still fits its log: what is refused now is the mileage alone.
-            assert_eq!(unit.propose(10_000_000).0, 6);
+            assert_eq!(unit.propose(100_000_000).0, 6);
         }
     }
     assert!(decided > 50, "only {decided} decisions");

@@ -22,7 +22,7 @@ const GARBAGE: Row = Row {
     image: contents([SPLIT; LOG_FIELDS]),
     checks: Marks {
         marks: 65_536,
-        estimates: [10_000_000; MAX_UNITS],
+        estimates: [100_000_000; MAX_UNITS],
     },
     seconds: Marks {
         marks: u32::MAX,
@@ -285,12 +285,12 @@ fn refusal_2_log_of_the_row() {
         (3, 65_536 + 2),
         (4, 10_000),
         (4, 65_536 + 4),
-        (5, 10_000_000),
+        (5, 100_000_000),
         (5, SPLIT),
         (6, SPLIT),
-        (6, 10_000_000),
+        (6, 100_000_000),
         (7, SPLIT - 1),
-        (7, 10_000_000),
+        (7, 100_000_000),
     ];
     for (field, value) in wrong {
         let mut fields = good;
@@ -372,7 +372,7 @@ fn refusal_3_image() {
         with(|row| [0, 1].iter().for_each(|&at| mark(&mut row.checks, at, 5))),
         with(|row| [0, 1].iter().for_each(|&at| mark(&mut row.seconds, at, 5))),
         with(|row| mark(&mut row.checks, 0, SPLIT)),
-        with(|row| mark(&mut row.seconds, 0, 10_000_000)),
+        with(|row| mark(&mut row.seconds, 0, 100_000_000)),
     ];
     for bad in rows {
         assert_row_refused(BESIDE, bad, 3);
@@ -387,10 +387,10 @@ fn refusal_3_image() {
         GOOD,
         image([B, 3, 1, 2, 4, 77, 6, BLANK]),
         image([B, 3, 1, 2, 9, 5, BLANK, BLANK]),
-        with(|row| mark(&mut row.checks, 2, 9_999_999)),
+        with(|row| mark(&mut row.checks, 2, 99_999_999)),
         with(|row| mark(&mut row.seconds, 0, SPLIT)),
     ] {
-        assert_refused(BESIDE, &card(2, good), Propose(2, 10_000_000), 6);
+        assert_refused(BESIDE, &card(2, good), Propose(2, 100_000_000), 6);
         assert_refused(BESIDE, &card(2, good), Deliver(&other), 5);
     }
 }
@@ -417,19 +417,75 @@ fn refusal_5_not_for_this_unit() {
 
 #[test]
 fn refusal_6_mileage() {
-    for mileage in [10_000_000, SPLIT, BLANK] {
+    for mileage in [100_000_000, SPLIT, BLANK] {
         assert_refused(BESIDE, &card(2, GOOD), Propose(2, mileage), 6);
     }
     let fresh = [B, 3, 1, 2, 0, BLANK, BLANK, BLANK];
     let mut rows = card(2, row(fresh));
-    let first = broadcast(F, 1, 2, 0, 9_999_999);
+    let first = broadcast(F, 1, 2, 0, 99_999_999);
     assert_eq!(
-        call(BESIDE, &mut rows, Propose(2, 9_999_999)),
+        call(BESIDE, &mut rows, Propose(2, 99_999_999)),
         (0, first, 1)
     );
     let mut wanted = row(fresh);
-    wanted.image.proposal = 9_999_999;
+    wanted.image.proposal = 99_999_999;
     assert_eq!(rows, card(2, wanted));
+}
+
+/// Mileages beside the bound that was before request 3 and at today's; and numbers beyond it.
+const MILEAGES: [u32; 4] = [9_999_999, 10_000_000, 10_000_001, 99_999_999];
+const BEYOND: [u32; 3] = [100_000_000, 100_000_001, 999_999_999];
+
+/// Row 2 with the number in its log, and so in its image; then in its image alone.
+fn with_number(number: u32) -> [Row; 6] {
+    [
+        row([B, 3, 1, 2, 4, number, 6, BLANK]),
+        row([B, 3, 1, 2, 4, 5, number, BLANK]),
+        row([B, 3, 1, 2, 4, 5, 6, number]),
+        with(|row| row.image.proposal = number),
+        with(|row| mark(&mut row.checks, 2, number)),
+        with(|row| mark(&mut row.seconds, 0, number)),
+    ]
+}
+
+#[test]
+fn the_bound_in_a_row() {
+    let second = broadcast(S, 2, 2, 3, 5);
+    for row in MILEAGES.into_iter().flat_map(with_number) {
+        for act in [KeyOn(2), Propose(2, 1), Deliver(&second)] {
+            assert_eq!(call(BESIDE, &mut card(2, row), act).0, 0);
+        }
+    }
+    for number in BEYOND {
+        let [logs @ .., proposal, check, second] = with_number(number);
+        for row in logs {
+            assert_row_refused(BESIDE, row, 2);
+            assert_refused(BESIDE, &card(2, row), KeyOn(2), 2);
+        }
+        for row in [proposal, check, second] {
+            assert_row_refused(BESIDE, row, 3);
+        }
+    }
+}
+
+#[test]
+fn the_bound_of_a_proposal_and_a_message() {
+    let fresh = row([B, 3, 1, 2, 0, BLANK, BLANK, BLANK]);
+    for mileage in MILEAGES {
+        let first = broadcast(F, 1, 2, 0, mileage);
+        let check = broadcast(C, 1, 2, 0, mileage);
+        let mut rows = card(2, fresh);
+        assert_eq!(call(BESIDE, &mut rows, Propose(2, mileage)), (0, first, 1));
+        assert_eq!(call(BESIDE, &mut rows, Deliver(&first)), (0, check, BLANK));
+        assert_eq!(rows[1].log.first, mileage);
+    }
+    for number in BEYOND {
+        let mut first = broadcast(F, 1, 2, 0, 5);
+        first[10..14].copy_from_slice(&number.to_be_bytes());
+        first[14..].copy_from_slice(&number.to_be_bytes());
+        assert_refused(BESIDE, &card(2, fresh), Propose(2, number), 6);
+        assert_refused(BESIDE, &card(2, fresh), Deliver(&first), 4);
+    }
 }
 
 /// Two entries of unit 1 on one card, their messages in turn: each goes to the row of its entry.

@@ -121,7 +121,7 @@ fn refusal_9_down_or_not_down() {
         "B,3,7\n1,K,0,0,-,-\n2,K,0,9,-,-\nend,2,0\n"
     );
     // Before 10, 5 and 6.
-    let script = "B,3,7\nU,0\nK,0\nD,0,9\nW,0,9\nP,0,10000000\nU,0\nU,0\n";
+    let script = "B,3,7\nU,0\nK,0\nD,0,9\nW,0,9\nP,0,100000000\nU,0\nU,0\n";
     let expected = "B,3,7\n1,U,0,9,-,-\n2,K,0,0,-,-\n3,D,0,9,-,-\n4,W,0,9,-,-\n5,P,0,9,-,-\n6,U,0,0,-,-\n7,U,0,9,-,-\nend,7,0\n";
     assert_eq!(list(script), expected);
 }
@@ -136,11 +136,24 @@ fn refusal_10_not_yet_sent() {
 
 #[test]
 fn refusal_6_mileage() {
-    let script = "B,3,7\nP,0,10000000\nP,0,4294967295\nP,0,9999999\n";
+    let script = "B,3,7\nP,0,100000000\nP,0,4294967295\nP,0,99999999\nP,1,10000000\n";
     assert_eq!(
         list(script),
-        "B,3,7\n1,P,0,6,-,-\n2,P,0,6,-,-\n3,P,0,0,0,-\nend,3,1\n"
+        "B,3,7\n1,P,0,6,-,-\n2,P,0,6,-,-\n3,P,0,0,0,-\n4,P,1,0,1,-\nend,4,2\n"
     );
+}
+
+/// Above the bound that was before request 3 a mileage is decided as any other.
+#[test]
+fn mileages_in_ten_metre_steps_are_decided() {
+    for mileage in ["9999999", "10000000", "99999999"] {
+        let script = format!("R,3,7\nP,0,{mileage}\nD,0,0\nD,1,0\nD,2,0\nD,0,1\nD,0,2\nD,0,3\n");
+        let expected = format!(
+            "R,3,7\n1,P,0,0,0,-\n2,D,0,0,1,-\n3,D,1,0,2,-\n4,D,2,0,3,-\n\
+             5,D,0,0,-,-\n6,D,0,0,-,-\n7,D,0,0,-,{mileage}\nend,7,4\n"
+        );
+        assert_eq!(list(&script), expected);
+    }
 }
 
 #[test]
@@ -175,7 +188,7 @@ fn refusal_11_no_place_left() {
         expected += &format!("{index},P,0,0,{},-\n", index - 1);
     }
     // 6 and 10 come before 11. A FIRST would be taken by unit 2 and have unit 0 send its CHECK again.
-    script += "P,0,5\nP,0,10000000\nD,2,128\nD,2,0\nD,0,0\n";
+    script += "P,0,5\nP,0,100000000\nD,2,128\nD,2,0\nD,0,0\n";
     expected += "129,P,0,11,-,-\n130,P,0,6,-,-\n131,D,2,10,-,-\n132,D,2,11,-,-\n133,D,0,11,-,-\n";
     // A step that sends nothing is accepted. The refused quorum changed nothing: with its second estimate set, unit 2 would be refused again.
     script += "D,2,1\nD,2,2\nD,2,1\n";

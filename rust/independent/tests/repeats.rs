@@ -7,7 +7,7 @@ use unit::{broadcast, log_fields, message, Bytes, Unit, B, C, EMPTY, ENTRY, F, K
 
 mod unit;
 
-const MILEAGES: [u32; 4] = [0, 6, 9, 9_999_999];
+const MILEAGES: [u32; 5] = [0, 6, 9, 10_000_000, 99_999_999];
 
 impl Unit {
     fn key_off_and_on(&mut self) {
@@ -53,7 +53,7 @@ fn b_sends_its_check_again() {
 #[test]
 fn r_sends_its_second_again() {
     for round in [0, 4, 9_999] {
-        for proposal in [BLANK, 0, 6, 9_999_999] {
+        for proposal in [BLANK, 0, 6, 99_999_999] {
             let unit = Unit::of_log([R, 3, 1, ENTRY, round, proposal, 7, BLANK]);
             unit.sends_again(F, second(R, round, 7, proposal));
         }

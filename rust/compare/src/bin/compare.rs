@@ -1,10 +1,11 @@
 //! Compares the core with the independent implementation: `compare [--long] [--seed N | --seed random] [--program PATH]`.
 //! Exit 0: all agreed, and all that should be reached was reached.
 
+use compare::old_bound::HUNDRED_METRES;
 use compare::program::{printed, Feed};
 use compare::random::Random;
-use compare::side::BOTH;
-use compare::{alone, card_differential, card_histories};
+use compare::side::{Pair, BOTH, CORE};
+use compare::{alone, card_differential, card_histories, same_calls, same_listings};
 use compare::{differential, histories, last_rounds, names, places, scripts};
 use std::path::{Path, PathBuf};
 use std::process::ExitCode;
@@ -82,6 +83,13 @@ fn play_scripts(program: &Path, hundreds: u64, random: &mut Random) -> Result<St
     scripts::run(&scripts::Players(&program, &independent), hundreds, random)
 }
 
+/// Beside the listings with the bound that was before request 3.
+fn play_as_before(program: &Path, hundreds: u64, random: &mut Random) -> Result<String, String> {
+    let before = hundred_metres::bench::listing;
+    let program = |script: &[u8], feed: Feed| printed(program, script, feed);
+    same_listings::run(&program, &before, hundreds, random)
+}
+
 fn run() -> Result<(), String> {
     let Options {
         times,
@@ -96,7 +104,7 @@ fn run() -> Result<(), String> {
     let amount = differential::Amount {
         calls: 3_000_000 * times,
         swept: 10 * times as usize,
-        mileages: true,
+        mileages: Some(if times > 1 { [1, 1] } else { [1, 23] }),
     };
     part("differential", seed, |random| {
         differential::run(&BOTH, &amount, random)
@@ -121,8 +129,14 @@ fn run() -> Result<(), String> {
     part("histories of cards", seed, |random| {
         card_histories::run(&BOTH, 3_000 * times, random)
     })?;
+    part("calls as before request 3", seed, |random| {
+        same_calls::run(&Pair(CORE, HUNDRED_METRES), 500_000 * times, random)
+    })?;
     part("scripts", seed, |random| {
         play_scripts(&program, 30 * times, random)
+    })?;
+    part("scripts as before request 3", seed, |random| {
+        play_as_before(&program, 10 * times, random)
     })
 }
 

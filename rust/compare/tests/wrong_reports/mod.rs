@@ -9,7 +9,7 @@ use compare::side::Pair;
 pub const FEW: Amount = Amount {
     calls: 100_000,
     swept: 0,
-    mileages: false,
+    mileages: None,
 };
 
 pub fn calls_report(pair: Pair) -> String {
