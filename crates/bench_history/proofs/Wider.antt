@@ -31,23 +31,23 @@ module _ (l : Limits) (k : ℕ) (more : l.max_mileage ≤ k) where
   abbrev l' : Limits
   l' = with_max_mileage k l
 
-  abbrev Alike : Bench → List ScriptEvent → Type 0
-  Alike b es = (play l' b es ≡ play l b es) × (bench_after l' b es ≡ bench_after l b es)
+  abbrev SamePlay : Bench → List ScriptEvent → Type 0
+  SamePlay b es = (play l' b es ≡ play l b es) × (bench_after l' b es ≡ bench_after l b es)
 
   -- each line's answer is the same, and so all that is played
-  alike : (b : Bench) (es : List ScriptEvent)
-      → EachLine es (λ before e. answer l' (bench_after l b before) e ≡ answer l (bench_after l b before) e) → Alike b es
+  same_play : (b : Bench) (es : List ScriptEvent)
+      → EachLine es (λ before e. answer l' (bench_after l b before) e ≡ answer l (bench_after l b before) e) → SamePlay b es
   unfolding play bench_after
-  alike b [] same = (refl, refl)
-  alike b (e ∷ es) same =
-      let r = alike (answer l b e).bench es (λ before later x split. same (e ∷ before) later x (ap (λ xs. e ∷ xs) split)) in
+  same_play b [] same = (refl, refl)
+  same_play b (e ∷ es) same =
+      let r = same_play (answer l b e).bench es (λ before later x split. same (e ∷ before) later x (ap (λ xs. e ∷ xs) split)) in
       rw (same [] es e refl) (ap (λ (ps : List Played). played e (answer l b e) ∷ ps) r.0, r.1)
 
   module _ (h : Header) (range : in_ranges h.n h.entry ≡ true) (es : List ScriptEvent) (below : Below h.n es)
       (none : (p : Played) → Memᴰ p (play l (start h) es) → number_of p.answer.refusal ≡ number_of (Some Refusal.Mileage) → ⊥) where
-    same_lines : Alike (start h) es
+    same_lines : SamePlay (start h) es
     same_lines =
-        alike (start h) es (λ before later e split.
+        same_play (start h) es (λ before later e split.
         let b = bench_after l (start h) before in
         let earlier = (below_parts h.n before e later (subst (Below h.n) split below)).0 in
         answer_wider l k more b (kept_well_formed h range l before earlier) e
@@ -65,7 +65,8 @@ module _ (l : Limits) (k : ℕ) (more : l.max_mileage ≤ k) where
       read short malformed e i = refl
       read short (script h es) e i = same_text h i.0 es i.1 (none h es short e)
 
-      go : (t : Bool) → leb (length s) script_size ≡ t → cond t (script_text l' (parse s)) malformed_text ≡ cond t (script_text l (parse s)) malformed_text
+      go : (t : Bool) → leb (length s) script_size ≡ t
+          → cond t (script_text l' (parse s)) malformed_text ≡ cond t (script_text l (parse s)) malformed_text
       go true e = read (leb-true _ _ e) (parse s) refl (script_in s)
       go false e = refl
 

@@ -93,7 +93,8 @@ module _ (l : Limits) (k : ℕ) (more : l.max_mileage ≤ k) where
   bytes_same Second m = refl
   bytes_same Skip m = refl
 
-  start_wider : (engine n unit entry : ℕ) (log image : List ℕ) → start_call l' engine n unit entry log image ≡ start_call l engine n unit entry log image
+  start_wider : (engine n unit entry : ℕ) (log image : List ℕ)
+      → start_call l' engine n unit entry log image ≡ start_call l engine n unit entry log image
   unfolding start_call start_call_conditions unit_lengths log_bytes image_bytes cleared
   start_wider engine n unit entry log image = refl
 
