@@ -21,7 +21,7 @@ use Rattle.script.specs.declared.Header.{Header}
 use Rattle.script.proofs.HeaderLines.{header_range}
 use Rattle.script.proofs.Parting.{parted_there, parted_none, parted_some}
 use Rattle.bench_play.specs.Bench.{start}
-use Rattle.bench_text.specs.InnerText.{Begins, HasRoom, Appends}
+use Rattle.bench_text.specs.InnerText.{Begins, HasRoom, Appends, Puts}
 use Rattle.bench_text.specs.declared.Listing.{Listing}
 use Rattle.bench.specs.Listing.{header_line, played_text, malformed_text, script_text, listing, PrintAnswer, printed, over, listing_call}
 use Rattle.bench.specs.InnerLines.{events_in, rest_text}
@@ -96,6 +96,9 @@ begun_room b room = omega (arith, b.empty, ap length b.same_bytes, room)
 -- a text at the front of a buffer with room for it
 over_front : (text xs : List ℕ) → length text ≤ length xs → sets xs 0 text ≡ over text xs
 over_front text xs room = rw zero-add at (sets-eq text xs 0 (omega arith))
+
+pub put_over : (text xs ys : List ℕ) (r : ℕ) → length text ≤ length xs → Puts xs 0 text ys r → (r ≡ length text) × (ys ≡ over text xs)
+put_over text xs ys r room p = (omega (arith, p.ends), p.bytes ∙ over_front text xs room)
 
 -- what is put into such a listing is what the call answers
 pub printed_whole : (l : Limits) (s : List ℕ) {lent : MutBor (List ℕ)} {begun done : Listing} {ys : List ℕ} {k n : ℕ}

@@ -25,7 +25,7 @@ impl<'a> Iterator for EventLines<'a> {
 
     ghost remaining = { item_count (λ lines. events_in lines.n lines.rest.now) };
 
-    #[tactic(auto, using(crate::proofs::LineEnds::none_left, crate::proofs::LineEnds::line_ended, crate::proofs::LineEnds::line_left))]
+    #[tactic(auto, using(crate::proofs::LineEnds::none_left, crate::proofs::LineEnds::ended_events, crate::proofs::LineEnds::left_events))]
     fn next(&mut self) -> Option<ScriptEvent> {
         if self.rest.is_empty() {
             return None;

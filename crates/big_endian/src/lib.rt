@@ -1,9 +1,13 @@
 // Numbers in bytes, the highest byte first.
 #![tactic(auto, unfolding(formats::specs::Numbers::num_at, formats::specs::Numbers::bytes_of))]
 
-ghost use Rattle.std.specs.Prelude.{◌≡◌, ℕ, ◌+◌, ◌≤◌, length};
+ghost use Rattle.std.specs.Prelude.{◌≡◌, ℕ, ◌+◌, ◌≤◌, [], ◌∷◌, length};
 ghost use Rattle.std.proofs.lemmas.List.Edits.{sets};
+ghost use Rattle.tally.specs.Limits.{today};
 ghost use Rattle.formats.specs.Numbers.{num_at, bytes_of};
+ghost use Rattle.formats.specs.InnerNumbers.{pack_into};
+
+use tally::limits::Round;
 
 // A number that stands in bytes. The place goes beside the bytes, and no subslice in their stead: the formats speak of places in the whole.
 pub trait BigEndian: Copy {
@@ -63,4 +67,24 @@ impl BigEndian for u32 {
     fn put(self, s: &mut [u8], at: usize) {
         s[at..at + 4].copy_from_slice(&self.to_be_bytes());
     }
+}
+
+// Four bytes, one after the other; the places add up as the widths do.
+pub fn put_four(out: &mut [u8], at: usize, a: u8, b: u8, c: u8, d: u8)
+    requires { at + 4 ≤ length out.old }
+    ensures { out.new ≡ pack_into out.old at (1 ∷ 1 ∷ 1 ∷ 1 ∷ []) (a ∷ b ∷ c ∷ d ∷ []) }
+{
+    a.put(out, at);
+    b.put(out, at + 1);
+    c.put(out, at + 1 + 1);
+    d.put(out, at + 1 + 1 + 1);
+}
+
+// An entry and a round.
+pub fn put_entry_round(out: &mut [u8], at: usize, entry: u16, round: Round)
+    requires { at + 2 + today.round_width ≤ length out.old }
+    ensures { out.new ≡ pack_into out.old at (2 ∷ today.round_width ∷ []) (entry ∷ round ∷ []) }
+{
+    entry.put(out, at);
+    round.put(out, at + 2);
 }

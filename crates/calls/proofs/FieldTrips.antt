@@ -1,8 +1,8 @@
 -- The calls over any lawful format: what writing contents answers, and both round trips between fields and bytes. Assumes nothing.
-use Rattle.std.specs.Prelude.{Some}
+use Rattle.std.specs.Prelude.{Option, Some, None}
 use Rattle.std.proofs.lemmas.Bool.{and_parts}
 use Prim.Native.Nat.{ℕ, ◌+◌, ◌≤◌}
-use mathlib.Core.Path.{◌≡◌, refl, sym, ap}
+use mathlib.Core.Path.{◌≡◌, refl, sym, ap, ◌∙◌}
 use mathlib.Core.Bool.{Bool, true, false, cond, ◌&&◌}
 use mathlib.Core.List.{List, append-nil}
 use native.Mathlib.Omega.{arith}
@@ -22,6 +22,8 @@ use Rattle.formats.specs.Messages.{message_format, cleared}
 use Rattle.formats.proofs.LogFormat as log
 use Rattle.formats.proofs.MessageFormat as message
 use Rattle.tally.specs.Limits.{Limits, log_fields, log_size, message_fields, message_size, Sane}
+use Rattle.calls.specs.InnerFields.{narrow, head_widths}
+use Rattle.calls.proofs.Narrow.{taken_narrow}
 use Rattle.calls.specs.Fields.{put_numbers, put_checked, read_call, write_call, FieldTrip, read_log_call, write_log_call, read_message_call, write_message_call}
 
 -- storing as many numbers as there are leaves these numbers
@@ -39,6 +41,20 @@ module _ {A : Type 0} (f : Format A) (law : LawfulFormat f (λ a. Unit)) where
           (wrote f.malformed kept)
       go true = refl
       go false = rw (ne_eqb f.malformed 0 law.refuses)
+
+  -- of the right lengths: what is taken of the numbers is written as contents are, and where nothing is, since one does not fit its bytes or a letter is
+  -- unknown, they are refused
+  module _ (k : ℕ) (fs kept bs : List ℕ) (len : length fs ≡ f.fields) (size : length bs ≡ f.size) where
+    written : (o : Option A) → cond (narrow true 0 (head_widths f k) fs) (f.parse fs) None ≡ o → write_call f fs kept bs ≡ put_checked f (checked f o) kept
+    written o e =
+        rw (eq-eqb (length fs) f.fields len, eq-eqb (length bs) f.size size)
+        (ap (λ (r : ReadAnswer A). put_checked f r kept) (sym (taken_narrow f law fs k len) ∙ ap (checked f) e))
+
+    pub none_written : cond (narrow true 0 (head_widths f k) fs) (f.parse fs) None ≡ None → write_call f fs kept bs ≡ wrote f.malformed kept
+    none_written e = written None e ∙ rw (ne_eqb f.malformed 0 law.refuses)
+
+    pub some_written : (a : A) → cond (narrow true 0 (head_widths f k) fs) (f.parse fs) None ≡ Some a → write_call f fs kept bs ≡ write_bytes f a kept bs
+    some_written a e = written (Some a) e ∙ put_checked_lem a kept bs size
 
   -- what a read call answers where the fields' length is right
   pub read_accepted : (bs fs : List ℕ) (a : A) → length fs ≡ f.fields → read_bytes f bs ≡ reading 0 a → read_call f bs fs ≡ wrote 0 (f.numbers a)

@@ -9,12 +9,13 @@ ghost use Rattle.formats.specs.Formats.{from_numbers};
 ghost use Rattle.formats.specs.Images.{tally_of};
 ghost use Rattle.formats.specs.InnerImages.{fit_state};
 ghost use Rattle.formats.specs.Logs.{log_format};
-ghost use Rattle.cards.specs.Rows.{numbers_of, marks_fit, row_tally, row_image, log_fields_of, tally_fields_of};
+ghost use Rattle.consensus.specs.Units.{up_unit};
+ghost use Rattle.cards.specs.Rows.{numbers_of, marks_fit, row_tally, row_image, log_fields_of, tally_fields_of, row_of};
 ghost use Rattle.cards.specs.InnerSteps.{log_read_of, unmarked_row, tally_fields_over, row_over};
 
 use cards::{CardRow, LogFields, TallyFields};
 use consensus::Unit;
-use contents::{Log, State};
+use contents::{Log, Settings, State};
 use numbers::LogNumbers;
 use rules::images::StandingTally;
 use tally::{Estimate, Refusal, Tally, limits};
@@ -158,6 +159,31 @@ pub fn unmarked(l: Log) -> CardRow
         image: fields,
         checks: NO_TALLY,
         seconds: NO_TALLY,
+    }
+}
+
+// The row of a unit made anew, from the unit's parts, whatever row is there. `put_unit` stores this row where the unit is a step of the row's own.
+pub fn row_of(
+    settings: Settings,
+    logged: State,
+    current: State,
+    checks: &Tally,
+    seconds: &Tally,
+) -> CardRow
+    ensures { result ≡ row_of (up_unit (record { settings = settings; state = logged })
+        (record { settings = settings; state = current; checks = checks.now; seconds = seconds.now })) }
+{
+    CardRow {
+        log: log_fields_of(Log {
+            settings,
+            state: logged,
+        }),
+        image: log_fields_of(Log {
+            settings,
+            state: current,
+        }),
+        checks: tally_fields(*checks),
+        seconds: tally_fields(*seconds),
     }
 }
 

@@ -8,6 +8,7 @@ use native.Mathlib.Omega.{arith}
 use Rattle.tally.specs.Limits.{Limits, senders}
 use Rattle.tally.specs.Tally.{is_marked, estimate_at}
 use Rattle.tally.specs.declared.Tally.{Tally}
+use Rattle.tally.specs.declared.Estimate.{Estimate}
 use Rattle.tally.proofs.Marks.{unmarked_none}
 use Rattle.tally.proofs.Never.{never}
 use Rattle.contents.specs.Estimates.{is_blank}
@@ -29,16 +30,25 @@ every_at (suc k) P h s b = go (and_parts (every k P) (P k) h) (every_at k P) (de
 
 -- ---- places that are not marked
 
-every_alike : (k : ℕ) (P Q : ℕ → Bool) → ((s : ℕ) → P s ≡ Q s) → every k P ≡ every k Q
+-- an unmarked place is tested alone
+pub unmarked_place : (l : Limits) (split : Bool) (n s : ℕ) (e : Estimate) → cell_ok l split n s false e ≡ is_blank e
+unfolding cell_ok
+unmarked_place l split n s e = and-true (is_blank e)
+
+every_alike : (k : ℕ) (P Q : ℕ → Bool) → ((s : ℕ) → s < k → P s ≡ Q s) → every k P ≡ every k Q
 unfolding every
 every_alike zero P Q same = refl
-every_alike (suc k) P Q same = rw (every_alike k P Q same, same k)
+every_alike (suc k) P Q same = rw (every_alike k P Q (λ s b. same s (omega arith)), same k (omega arith))
 
--- a tally without marks is well formed where each place is blank
-pub blank_places : (l : Limits) (split : Bool) (n : ℕ) (t : Tally) → t.marks ≡ 0
-    → every senders (λ u. is_blank (estimate_at t u)) ≡ cells_ok l split n t
-unfolding cell_ok cells_ok
-blank_places l split n t none =
-    every_alike senders _ _
-    (λ s. sym (ap (λ (m : Bool). cell_ok l split n s m (estimate_at t s)) (ap (λ (x : ℕ). is_marked x s) none ∙ unmarked_none s)
-    ∙ and-true (is_blank (estimate_at t s))))
+module _ (l : Limits) (split : Bool) (n : ℕ) (t : Tally) where
+  -- a tally without marks is well formed where each place passes a test that is the same as being blank
+  pub tested_places : (Q : ℕ → Bool) → t.marks ≡ 0 → ((s : ℕ) → s < senders → Q s ≡ is_blank (estimate_at t s)) → every senders Q ≡ cells_ok l split n t
+  unfolding cells_ok
+  tested_places Q none same =
+      every_alike senders Q _
+      (λ s b. same s b ∙ sym (ap (λ (m : Bool). cell_ok l split n s m (estimate_at t s)) (ap (λ (x : ℕ). is_marked x s) none ∙ unmarked_none s)
+      ∙ unmarked_place l split n s (estimate_at t s)))
+
+  -- .. where each place is blank
+  pub blank_places : t.marks ≡ 0 → every senders (λ u. is_blank (estimate_at t u)) ≡ cells_ok l split n t
+  blank_places none = tested_places (λ u. is_blank (estimate_at t u)) none (λ s b. refl)

@@ -23,7 +23,7 @@ pub fn read_log(log: &[u8], fields: &mut [u32]) -> Result<(), Refusal>
 }
 
 // Writes a log of its eight numbers.
-#[tactic(auto, unfolding(calls::specs::Fields::write_log_call, formats::specs::InnerFormats::stored))]
+#[tactic(auto, unfolding(calls::specs::Fields::write_log_call))]
 pub fn write_log(fields: &[u32], log: &mut [u8]) -> Result<(), Refusal>
     ensures { wrote (number_of (result_err result)) log.new ≡ write_log_call today fields.now log.old }
 {
@@ -31,8 +31,8 @@ pub fn write_log(fields: &[u32], log: &mut [u8]) -> Result<(), Refusal>
     if log.len() != limits::LOG_SIZE {
         return Err(Refusal::Length);
     }
-    log_codec::store_log(numbers::log_from(fields)?, log);
-    Ok(())
+    let l = numbers::narrow_log(fields).ok_or(Refusal::Log)?;
+    log_codec::write_log(l, log)
 }
 
 // Reads a message's nine numbers: kind and engine letter, n, sender, receiver, entry, round, estimate, proposal.
@@ -46,7 +46,7 @@ pub fn read_message(message: &[u8], fields: &mut [u32]) -> Result<(), Refusal>
 }
 
 // Writes a message of its nine numbers. A refused write leaves an empty message in a buffer of its length; another keeps its bytes.
-#[tactic(auto, unfolding(calls::specs::Fields::write_message_call, formats::specs::InnerFormats::stored))]
+#[tactic(auto, unfolding(calls::specs::Fields::write_message_call))]
 pub fn write_message(fields: &[u32], message: &mut [u8]) -> Result<(), Refusal>
     ensures { wrote (number_of (result_err result)) message.new ≡ write_message_call today fields.now message.old }
 {
@@ -55,6 +55,6 @@ pub fn write_message(fields: &[u32], message: &mut [u8]) -> Result<(), Refusal>
     if message.len() != limits::MESSAGE_SIZE {
         return Err(Refusal::Length);
     }
-    message_codec::store_message(numbers::message_from(fields)?, message);
-    Ok(())
+    let m = numbers::narrow_message(fields).ok_or(Refusal::Message)?;
+    message_codec::write_message(m, message)
 }

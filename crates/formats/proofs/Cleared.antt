@@ -28,6 +28,20 @@ length_cleared l bs = go (eqb (length bs) (message_size l)) refl
     go true e = rw (length-replicate {A = ℕ} (message_size l) 0) (sym (eqb-true _ _ e))
     go false e = refl
 
+cleared_again : (l : Limits) (bs : List ℕ) → cleared l (cleared l bs) ≡ cleared l bs
+unfolding cleared
+cleared_again l bs = go (eqb (length bs) (message_size l)) refl
+  where
+    go : (b : Bool) → eqb (length bs) (message_size l) ≡ b
+        → cond (eqb (length (cond b (empty_bytes l) bs)) (message_size l)) (empty_bytes l) (cond b (empty_bytes l) bs) ≡ cond b (empty_bytes l) bs
+    go true e = rw (eq-eqb (length (empty_bytes l)) (message_size l) (length-replicate {A = ℕ} (message_size l) 0))
+    go false e = rw e
+
+-- writing to a buffer that was cleared before is writing to it
+pub written_cleared : (l : Limits) (m : Message) (bs : List ℕ) → write_message l m (cleared l bs) ≡ write_message l m bs
+unfolding write_message
+written_cleared l m bs = rw (cleared_again l bs, length_cleared l bs)
+
 -- zeros hold the number 0 everywhere
 zeros : (n i : ℕ) → ◌≡◌ {A = ℕ} (get_or (replicate n 0) i 0) 0
 zeros zero i = refl

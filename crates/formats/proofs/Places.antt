@@ -10,7 +10,8 @@ use lib.Dec.{eqb}
 use lib.ListN.{length, get_or, replicate, length-append}
 use borrow.Author.Tests.{eq-eqb, ne_eqb, eqb-true}
 use Rattle.tally.specs.Limits.{today, image_size, senders}
-use Rattle.tally.specs.Tally.{Typed, blank_cell, estimate_at}
+use Rattle.tally.specs.Tally.{Typed, blank_cell, estimate_at, is_marked, held}
+use Rattle.tally.specs.declared.Estimate.TheVariants.{Blank}
 use Rattle.tally.specs.declared.Engine.{Engine}
 use Rattle.tally.specs.declared.Tally.{Tally}
 use Rattle.tally.specs.Refusal.{number_of}
@@ -49,6 +50,13 @@ cell_at (suc n) zero o bs h = let e : o + 4 * 0 ≡ o = omega arith in rw e
 cell_at (suc n) (suc k) o bs h =
     let e : o + 4 + 4 * k ≡ o + 4 * suc k = omega arith in
     cell_at n k (o + 4) bs (omega arith) ∙ ap (λ (x : ℕ). cell_of (num_at bs x 4)) e
+
+-- what an unmarked or marked cell holds, as its four bytes have it
+pub held_at : (marks o k : ℕ) (bs : List ℕ) → k < senders
+    → held (record { marks = marks; cells = map cell_of (unpack o cell_widths bs) }) k
+    ≡ cond (is_marked marks k) (estimate_of (num_at bs (o + 4 * k) 4)) Blank
+unfolding held
+held_at marks o k bs h = rw (cell_at senders k o bs h)
 
 pub estimate_at_lem : (o k : ℕ) (bs : List ℕ) → k < senders → estimate_at (tally_at o bs) k ≡ estimate_of (num_at bs (o + 2 + 4 * k) 4)
 estimate_at_lem o k bs h = rw (cell_at senders k (o + 2) bs h)

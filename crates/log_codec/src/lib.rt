@@ -103,10 +103,14 @@ pub fn put_log(log: Log, out: &mut [u8])
     requires { log_size today ≤ length out.old }
     ensures { out.new ≡ pack_into out.old 0 (log_widths today) (with_zero log_zero (log_numbers log)) }
 {
-    codes::letter_of(log.settings.engine).put(out, 0);
-    log.settings.n.put(out, AT_N);
-    log.settings.unit.put(out, AT_UNIT);
-    0u8.put(out, AT_ZERO);
+    big_endian::put_four(
+        out,
+        0,
+        codes::letter_of(log.settings.engine),
+        log.settings.n,
+        log.settings.unit,
+        0,
+    );
     log.settings.entry.put(out, AT_ENTRY);
     put_state_at(log.state, out);
 }

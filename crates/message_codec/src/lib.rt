@@ -37,6 +37,7 @@ const AT_PROPOSAL: usize = AT_ESTIMATE + 4;
 type MessageBytes = [u8; limits::MESSAGE_SIZE];
 
 // The contents that the bytes hold, at a kind and an engine.
+#[inline(always)]
 fn message_at(kind: Kind, engine: Engine, s: &MessageBytes) -> Message
     ensures { result ≡ message_of kind engine (message_numbers_in today s.now) }
 {
@@ -70,14 +71,17 @@ pub fn read_message(s: &[u8]) -> Result<Message, Refusal>
 fn put_message(m: Message, out: &mut MessageBytes)
     ensures { out.new ≡ to_bytes (message_format today) m }
 {
-    codes::kind_letter(m.kind).put(out, 0);
-    codes::letter_of(m.engine).put(out, AT_ENGINE);
-    m.n.put(out, AT_N);
-    m.sender.put(out, AT_SENDER);
+    big_endian::put_four(
+        out,
+        0,
+        codes::kind_letter(m.kind),
+        codes::letter_of(m.engine),
+        m.n,
+        m.sender,
+    );
     m.receiver.put(out, AT_RECEIVER);
     0u8.put(out, AT_ZERO);
-    m.entry.put(out, AT_ENTRY);
-    m.round.put(out, AT_ROUND);
+    big_endian::put_entry_round(out, AT_ENTRY, m.entry, m.round);
     codes::code_of(m.estimate).put(out, AT_ESTIMATE);
     codes::code_of(m.proposal).put(out, AT_PROPOSAL);
 }

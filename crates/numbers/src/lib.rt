@@ -38,9 +38,9 @@ pub fn settings_from(engine: u32, n: u32, unit: u32, entry: u32) -> Option<Setti
     narrow_settings(engine, n, unit, entry).filter(|s| rules::logs::settings_ok(*s))
 }
 
-// The log of eight numbers that fit their bytes.
+// The log of eight numbers that fit their bytes, well formed or not.
 #[tactic(auto, unfolding(calls::specs::InnerFields::log_narrow, calls::specs::InnerCalls::settings_narrow, calls::specs::InnerCalls::settings_known))]
-fn narrow_log(f: &LogNumbers) -> Option<Log>
+pub fn narrow_log(f: &LogNumbers) -> Option<Log>
     ensures { result ≡ cond (log_narrow today f.now) (parse_log f.now) None }
 {
     let [engine, n, unit, entry, round, proposal, first, second] = *f;
@@ -77,9 +77,9 @@ pub fn log_numbers(log: Log) -> LogNumbers
     ]
 }
 
-// The message of nine numbers that fit their bytes.
+// The message of nine numbers that fit their bytes, well formed or not.
 #[tactic(auto, unfolding(calls::specs::InnerFields::message_narrow, formats::specs::Messages::letters_read))]
-fn narrow_message(f: &MessageNumbers) -> Option<Message>
+pub fn narrow_message(f: &MessageNumbers) -> Option<Message>
     ensures { result ≡ cond (message_narrow today f.now) (parse_message f.now) None }
 {
     let [

@@ -190,8 +190,9 @@ impl Tally {
     {
         let mut marked = (0..limits::MAX_UNITS).filter_map(|s| self.sent_by(s));
         match marked.next() {
+            None => Estimate::Split,
             Some(Estimate::Mileage(v)) if marked.all(|e| has_value(e, v)) => Estimate::Mileage(v),
-            _ => Estimate::Split,
+            Some(_) => Estimate::Split,
         }
     }
 

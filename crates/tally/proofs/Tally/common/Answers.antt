@@ -14,8 +14,8 @@ returns-in-Some-Mileage c =
       c.if-all.true,
     )
 
-pub returns-in_default : goal.returns-in_default
-returns-in_default c =
+pub returns-in-Some : goal.returns-in-Some
+returns-in-Some c =
     rw (
       common_by c.args.self.now c.in-Some-Mileage.v c.all.result (rw (c.in-Some-Mileage.is, c.in-Some-Mileage.field-0-is) at c.next.ensures.steps)
           (chain_gathered c.args.self.now c.filter_map-marked.ensures.source c.filter_map-marked.ensures.closure (λ x r q k. search rules))
@@ -23,15 +23,15 @@ returns-in_default c =
       c.if-all.false,
     )
 
-pub returns-in_default-2 : goal.returns-in_default-2
-returns-in_default-2 c =
-    let other : any_mileage c.in_default.field-0 ≡ false = search rules in
-    let first = some_first c.next.new.self _ (gathered c.args.self.now) (rw c.in_default.is at c.next.ensures.steps)
+pub returns-in-Some-2 : goal.returns-in-Some-2
+returns-in-Some-2 c =
+    let other : any_mileage c.in-Some.field-0 ≡ false = search rules in
+    let first = some_first c.next.new.self _ (gathered c.args.self.now) (rw c.in-Some.is at c.next.ensures.steps)
     (chain_gathered c.args.self.now c.filter_map-marked.ensures.source c.filter_map-marked.ensures.closure (λ x r q k. search rules)) in
-    rw (first.1.0, common_other c.in_default.field-0 first.0 other)
+    rw (first.1.0, common_other c.in-Some.field-0 first.0 other)
 
-pub returns-in_default-3 : goal.returns-in_default-3
+pub returns-in-None : goal.returns-in-None
 unfolding common
-returns-in_default-3 c =
-    rw (none_first c.next.new.self (gathered c.args.self.now) (rw c.in_default.is at c.next.ensures.steps)
+returns-in-None c =
+    rw (none_first c.next.new.self (gathered c.args.self.now) (rw c.in-None.is at c.next.ensures.steps)
     (chain_gathered c.args.self.now c.filter_map-marked.ensures.source c.filter_map-marked.ensures.closure (λ x r q k. search rules)))
