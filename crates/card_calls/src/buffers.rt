@@ -2,6 +2,7 @@
 // entry is calls alone, without a branch.
 ghost use Rattle.std.specs.Prelude.{◌≡◌};
 ghost use Rattle.tally.specs.Limits.{today};
+ghost use Rattle.tally.specs.Refusal.{number_of};
 ghost use Rattle.formats.specs.Codes.{code_of};
 ghost use Rattle.cards.specs.InnerSteps.{card_call, propose_asks, deliver_asks, put_message};
 
@@ -77,4 +78,21 @@ pub fn put_told(t: Told, out: &mut [u8], decision: &mut u32)
 {
     *decision = codes::code_of(t.decision);
     put_message(t.message, out);
+}
+
+// What an entry does with what is told: the message goes into the output buffer, and the number to the caller.
+pub fn tell_message(t: Told, out: &mut [u8]) -> u32
+    ensures { (result ≡ number_of t.refusal) × (out.new ≡ put_message today t.message out.old) }
+{
+    put_message(t.message, out);
+    tally::number(t.refusal)
+}
+
+// The decision too.
+pub fn tell(t: Told, out: &mut [u8], decision: &mut u32) -> u32
+    ensures { (result ≡ number_of t.refusal) × ((out.new ≡ put_message today t.message out.old)
+        × (decision.new ≡ code_of t.decision)) }
+{
+    put_told(t, out, decision);
+    tally::number(t.refusal)
 }

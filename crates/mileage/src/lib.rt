@@ -149,8 +149,7 @@ pub extern "C" fn mileage_card_propose(
 {
     let asked = card_calls::buffers::propose_asks(engine, n, unit, row, mileage, out.len());
     let t = card_calls::on_row(asked, rows);
-    card_calls::buffers::put_message(t.message, out);
-    tally::number(t.refusal)
+    card_calls::buffers::tell_message(t, out)
 }
 
 // Delivers a message to the row of its entry. The decision is always written.
@@ -169,6 +168,5 @@ pub extern "C" fn mileage_card_deliver(
 {
     let asked = card_calls::buffers::deliver_asks(engine, n, unit, message, out.len());
     let t = card_calls::on_row(asked, rows);
-    card_calls::buffers::put_told(t, out, decision);
-    tally::number(t.refusal)
+    card_calls::buffers::tell(t, out, decision)
 }

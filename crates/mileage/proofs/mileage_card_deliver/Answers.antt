@@ -4,5 +4,5 @@ use Rattle.mileage.proofs.mileage_card_deliver.Goals as goal
 
 pub returns : goal.returns
 returns c =
-    rw (c.number.ensures, c.put_told.ensures.0, c.put_told.ensures.1, c.on_row-t.ensures.1, c.on_row-t.ensures.0, c.deliver_asks-asked.ensures)
+    rw (c.tell.ensures.0, c.tell.ensures.1.0, c.tell.ensures.1.1, c.on_row-t.ensures.1, c.on_row-t.ensures.0, c.deliver_asks-asked.ensures)
     (deliver_asked c.args.engine c.args.n c.args.unit c.args.rows.now c.args.out.now c.args.message.now)

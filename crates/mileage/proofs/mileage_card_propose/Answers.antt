@@ -4,5 +4,5 @@ use Rattle.mileage.proofs.mileage_card_propose.Goals as goal
 
 pub returns : goal.returns
 returns c =
-    rw (c.number.ensures, c.put_message.ensures, c.on_row-t.ensures.1, c.on_row-t.ensures.0, c.propose_asks-asked.ensures)
+    rw (c.tell_message.ensures.0, c.tell_message.ensures.1, c.on_row-t.ensures.1, c.on_row-t.ensures.0, c.propose_asks-asked.ensures)
     (propose_asked c.args.engine c.args.n c.args.unit c.args.rows.now c.args.out.now c.args.row c.args.mileage)
