@@ -4,7 +4,7 @@ ghost use Rattle.tally.specs.Limits.{today};
 ghost use Rattle.consensus.specs.Methods.{is_up, for_other, out_of_range, is_second, closes_last, refuses, propose, deliver, key_off, key_on};
 ghost use Rattle.consensus.specs.InnerMethods.{taken, deliver_read};
 
-use super::step::{Checked, Said};
+use super::step::{Checked, NOTHING, Said};
 use super::{Answer, Power, Unit, step};
 use contents::{Kind, Message, Settings};
 use rules::estimates;
@@ -114,9 +114,15 @@ impl Unit {
     pub fn deliver(mut self, m: Message) -> Answer
         ensures { result ≡ deliver today self m }
     {
-        match self.take(m) {
-            Ok(said) => self.gives(said),
-            Err(refusal) => self.refused(Some(refusal)),
+        let (refusal, said) = match self.take(m) {
+            Ok(said) => (None, said),
+            Err(why) => (Some(why), NOTHING),
+        };
+        Answer {
+            refusal,
+            unit: self,
+            message: said.message,
+            decision: said.decision,
         }
     }
 
