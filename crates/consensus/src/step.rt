@@ -140,7 +140,7 @@ pub(crate) fn marked(t: &Tally, m: Checked) -> Tally
 
 impl Unit {
     // ---- answers: a step changes the unit where it stands, and its answer is given once
-    pub(crate) fn gives(self, said: Said) -> Answer
+    fn gives(self, said: Said) -> Answer
         ensures { result ≡ gives self said.message said.decision }
     {
         Answer {
