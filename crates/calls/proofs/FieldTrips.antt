@@ -45,7 +45,8 @@ module _ {A : Type 0} (f : Format A) (law : LawfulFormat f (λ a. Unit)) where
   -- of the right lengths: what is taken of the numbers is written as contents are, and where nothing is, since one does not fit its bytes or a letter is
   -- unknown, they are refused
   module _ (k : ℕ) (fs kept bs : List ℕ) (len : length fs ≡ f.fields) (size : length bs ≡ f.size) where
-    written : (o : Option A) → cond (narrow true 0 (head_widths f k) fs) (f.parse fs) None ≡ o → write_call f fs kept bs ≡ put_checked f (checked f o) kept
+    written : (o : Option A) → cond (narrow true 0 (head_widths f k) fs) (f.parse fs) None ≡ o
+        → write_call f fs kept bs ≡ put_checked f (checked f o) kept
     written o e =
         rw (eq-eqb (length fs) f.fields len, eq-eqb (length bs) f.size size)
         (ap (λ (r : ReadAnswer A). put_checked f r kept) (sym (taken_narrow f law fs k len) ∙ ap (checked f) e))
@@ -53,7 +54,8 @@ module _ {A : Type 0} (f : Format A) (law : LawfulFormat f (λ a. Unit)) where
     pub none_written : cond (narrow true 0 (head_widths f k) fs) (f.parse fs) None ≡ None → write_call f fs kept bs ≡ wrote f.malformed kept
     none_written e = written None e ∙ rw (ne_eqb f.malformed 0 law.refuses)
 
-    pub some_written : (a : A) → cond (narrow true 0 (head_widths f k) fs) (f.parse fs) None ≡ Some a → write_call f fs kept bs ≡ write_bytes f a kept bs
+    pub some_written : (a : A) → cond (narrow true 0 (head_widths f k) fs) (f.parse fs) None ≡ Some a
+        → write_call f fs kept bs ≡ write_bytes f a kept bs
     some_written a e = written (Some a) e ∙ put_checked_lem a kept bs size
 
   -- what a read call answers where the fields' length is right

@@ -109,7 +109,7 @@ impl Unit {
         self.proposed(mileage)
     }
 
-    // Takes a message.
+    // Takes a message. The answer is made once: in two branches the unit is copied once more.
     #[inline(always)]
     pub fn deliver(mut self, m: Message) -> Answer
         ensures { result ≡ deliver today self m }

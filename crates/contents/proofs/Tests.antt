@@ -42,7 +42,8 @@ every_alike (suc k) P Q same = rw (every_alike k P Q (λ s b. same s (omega arit
 
 module _ (l : Limits) (split : Bool) (n : ℕ) (t : Tally) where
   -- a tally without marks is well formed where each place passes a test that is the same as being blank
-  pub tested_places : (Q : ℕ → Bool) → t.marks ≡ 0 → ((s : ℕ) → s < senders → Q s ≡ is_blank (estimate_at t s)) → every senders Q ≡ cells_ok l split n t
+  pub tested_places : (Q : ℕ → Bool) → t.marks ≡ 0 → ((s : ℕ) → s < senders → Q s ≡ is_blank (estimate_at t s))
+      → every senders Q ≡ cells_ok l split n t
   unfolding cells_ok
   tested_places Q none same =
       every_alike senders Q _

@@ -36,7 +36,8 @@ const AT_PROPOSAL: usize = AT_ESTIMATE + 4;
 
 type MessageBytes = [u8; limits::MESSAGE_SIZE];
 
-// The contents that the bytes hold, at a kind and an engine.
+// The contents that the bytes hold, at a kind and an engine. Inlined: else they are built in memory byte by byte, and read again in wider pieces, which
+// takes a reader half as long again.
 #[inline(always)]
 fn message_at(kind: Kind, engine: Engine, s: &MessageBytes) -> Message
     ensures { result ≡ message_of kind engine (message_numbers_in today s.now) }

@@ -54,7 +54,8 @@ chain_gathered {g = g} {s = s} t source closure calls =
 -- counted and found
 module _ (P : Estimate → Bool) where
   -- from any sender on
-  pub passing_sum : (t : Tally) (s k : ℕ) → count_by (λ u. is_marked t.marks u && P (estimate_at t u)) (range_with_len s k) ≡ passing P (gathered_from t s k)
+  pub passing_sum : (t : Tally) (s k : ℕ)
+      → count_by (λ u. is_marked t.marks u && P (estimate_at t u)) (range_with_len s k) ≡ passing P (gathered_from t s k)
   unfolding gathered_from
   passing_sum t s zero = refl
   passing_sum t s (suc k) =
