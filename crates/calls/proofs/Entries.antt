@@ -131,24 +131,24 @@ module _ {A : Type 0} (f : Format A) (bs : List ℕ) (size : length bs ≡ f.siz
       go true (Some a) h = by a (f.ok a) h
 
 module _ (l : Limits) (sane : Sane l) (bs : List ℕ) where
-  pub log_bad : (k : Refusal) → reading (number_of (Some k)) no_log ≡ read_log l bs → bad_log l bs ≡ true
+  pub log_bad : (k : Option Refusal) → reading (number_of k) no_log ≡ read_log l bs → bad_log l bs ≡ true
   unfolding bad_log read_log
-  log_bad k e = rw (← e, refused_number (log_format l) (λ r. Unit) (log.lawful l sane) bs (number_of (Some k)) (sym e))
+  log_bad k e = rw (← e, refused_number (log_format l) (λ r. Unit) (log.lawful l sane) bs (number_of k) (sym e))
 
   -- .. of the right length: the number is that of a malformed log
   pub log_refused : (k : Refusal) → length bs ≡ log_size l → reading (number_of (Some k)) no_log ≡ read_log l bs
       → (bad_log l bs ≡ true) × (number_of (Some k) ≡ number_of (Some Refusal.Log))
   unfolding read_log
-  log_refused k size e = (log_bad k e, as_malformed (log_format l) bs size k e)
+  log_refused k size e = (log_bad (Some k) e, as_malformed (log_format l) bs size k e)
 
-  pub message_bad : (k : Refusal) → reading (number_of (Some k)) empty_message ≡ read_message l bs → bad_message l bs ≡ true
+  pub message_bad : (k : Option Refusal) → reading (number_of k) empty_message ≡ read_message l bs → bad_message l bs ≡ true
   unfolding bad_message read_message
-  message_bad k e = rw (← e, refused_number (message_format l) (λ m. Unit) (message.lawful l sane) bs (number_of (Some k)) (sym e))
+  message_bad k e = rw (← e, refused_number (message_format l) (λ m. Unit) (message.lawful l sane) bs (number_of k) (sym e))
 
   pub message_refused : (k : Refusal) → length bs ≡ message_size l → reading (number_of (Some k)) empty_message ≡ read_message l bs
       → (bad_message l bs ≡ true) × (number_of (Some k) ≡ number_of (Some Refusal.Message))
   unfolding read_message
-  message_refused k size e = (message_bad k e, as_malformed (message_format l) bs size k e)
+  message_refused k size e = (message_bad (Some k) e, as_malformed (message_format l) bs size k e)
 
   -- a message that was read is well formed
   pub message_ok_lem : (m : Message) → reading 0 m ≡ read_message l bs → message_ok l m ≡ true
