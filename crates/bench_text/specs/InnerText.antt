@@ -15,6 +15,12 @@ pub record Begins (buffer : MutBor (List ℕ)) (p : Listing) : Type 0 where
   pub same_bytes : p.buffer.now ≡ buffer.now
   pub empty : p.at ≡ 0
 
+-- a listing that goes on at a place of the buffer that is lent, whatever stands before it
+pub record Resumes (buffer : MutBor (List ℕ)) (at : ℕ) (p : Listing) : Type 0 where
+  pub same_reference : p.buffer.ghost_name ≡ buffer.ghost_name
+  pub same_bytes : p.buffer.now ≡ buffer.now
+  pub place : p.at ≡ at
+
 -- after the listing there is room for so many bytes more
 abbrev pub HasRoom : Listing → ℕ → Type 0
 HasRoom p bytes = p.at + bytes ≤ length p.buffer.now

@@ -3,7 +3,7 @@
 
 ghost use Rattle.std.specs.Prelude.{◌≡◌, ◌+◌, ◌≤◌, ◌<◌, ◌^◌, [], ◌∷◌, length};
 ghost use Rattle.bench_text.specs.Text.{digits, decimal, shown_text, field_text, fields_text, header_text, line_text, end_text};
-ghost use Rattle.bench_text.specs.InnerText.{Begins, HasRoom, Appends};
+ghost use Rattle.bench_text.specs.InnerText.{Begins, Resumes, HasRoom, Appends};
 
 use bench_script::{numbers, parts};
 
@@ -43,7 +43,14 @@ impl<'a> Listing<'a> {
         Listing { buffer, at: 0 }
     }
 
-    // How many bytes it has.
+    // A listing that goes on at a place of the buffer: a text that is put into it stands there.
+    pub fn resume(buffer: &'a mut [u8], at: usize) -> Self
+        ensures { Resumes buffer.entry at result }
+    {
+        Listing { buffer, at }
+    }
+
+    // How many bytes it has, those before the place where it went on among them.
     pub fn len(&self) -> usize
         ensures { result ≡ self.now.at }
     {
