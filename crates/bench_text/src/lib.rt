@@ -29,7 +29,7 @@ pub struct ListingLine {
     pub decision: Shown,
 }
 
-// A listing so far, at the front of a lent buffer. Room is asked for text by text: it shrinks with each, so it is no field.
+// A listing so far, in a lent buffer: from its front, or from a place in it on. Room is asked for text by text: it shrinks with each, so it is no field.
 #[derive(Drop)]
 pub struct Listing<'a> {
     buffer: &'a mut [u8],
