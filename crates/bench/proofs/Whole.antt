@@ -91,7 +91,7 @@ listing_length l s = go (leb (length s) script_size) refl
 
 -- a listing that begins in a buffer with room for any
 pub begun_room : {lent : MutBor (List ℕ)} {begun : Listing} → Begins lent begun → max_listing ≤ length lent.now → HasRoom begun max_listing
-begun_room b room = omega (arith, b.empty, ap length b.same_bytes, room)
+begun_room b room = omega (arith, b.place, ap length b.same_bytes, room)
 
 -- a text at the front of a buffer with room for it
 over_front : (text xs : List ℕ) → length text ≤ length xs → sets xs 0 text ≡ over text xs
@@ -108,9 +108,9 @@ pub printed_whole : (l : Limits) (s : List ℕ) {lent : MutBor (List ℕ)} {begu
 unfolding listing_call
 printed_whole l s {lent} {begun} {done} {ys} {k} {n} room b wrote bytes ends accepted =
     let all : length (listing l s) ≤ length lent.now = omega (arith, listing_length l s, room) in
-    let long : n ≡ length (listing l s) = omega (arith, ends, wrote.puts.ends, b.empty) in
+    let long : n ≡ length (listing l s) = omega (arith, ends, wrote.puts.ends, b.place) in
     let text : ys ≡ over (listing l s) lent.now =
-    bytes ∙ wrote.puts.bytes ∙ rw (b.same_bytes, b.empty) (over_front (listing l s) lent.now all) in
+    bytes ∙ wrote.puts.bytes ∙ rw (b.same_bytes, b.place) (over_front (listing l s) lent.now all) in
     rw (accepted, le-ltb (length lent.now) max_listing room, long, text) refl
 
 -- what the call prints lies within its buffer

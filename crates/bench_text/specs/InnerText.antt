@@ -9,17 +9,15 @@ pub record Puts (xs : List ℕ) (at : ℕ) (text : List ℕ) (ys : List ℕ) (r 
   pub bytes : ys ≡ sets xs at text
   pub ends : r ≡ at + length text
 
--- a listing of no byte yet, in the buffer that is lent
-pub record Begins (buffer : MutBor (List ℕ)) (p : Listing) : Type 0 where
-  pub same_reference : p.buffer.ghost_name ≡ buffer.ghost_name
-  pub same_bytes : p.buffer.now ≡ buffer.now
-  pub empty : p.at ≡ 0
-
 -- a listing that goes on at a place of the buffer that is lent, whatever stands before it
 pub record Resumes (buffer : MutBor (List ℕ)) (at : ℕ) (p : Listing) : Type 0 where
   pub same_reference : p.buffer.ghost_name ≡ buffer.ghost_name
   pub same_bytes : p.buffer.now ≡ buffer.now
   pub place : p.at ≡ at
+
+-- a listing of no byte yet
+abbrev pub Begins : MutBor (List ℕ) → Listing → Type 0
+Begins buffer p = Resumes buffer 0 p
 
 -- after the listing there is room for so many bytes more
 abbrev pub HasRoom : Listing → ℕ → Type 0

@@ -43,14 +43,14 @@ impl<'a> Listing<'a> {
         Listing { buffer, at: 0 }
     }
 
-    // A listing that goes on at a place of the buffer: a text that is put into it stands there.
+    // A listing that goes on at a place of the buffer: what is put into it stands from there on.
     pub fn resume(buffer: &'a mut [u8], at: usize) -> Self
         ensures { Resumes buffer.entry at result }
     {
         Listing { buffer, at }
     }
 
-    // How many bytes it has, those before the place where it went on among them.
+    // Where it ends in the buffer: of one from the front, how many bytes it has.
     pub fn len(&self) -> usize
         ensures { result ≡ self.now.at }
     {
